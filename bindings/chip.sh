@@ -27,11 +27,10 @@ fi
 cp "$MODULE" "$out/module.bc"
 clang=$tools/bin/clang
 "$clang" -S -emit-llvm -O0 -Xclang -disable-llvm-passes -Wno-override-module "$out/module.bc" -o "$out/module.ll"
-# Where a pointer has 32 bits, ptrtoaddr gives no 64: ptrtoint extends the address with zeros.
 sed -e '/^target datalayout/s/".*"/"e-m:e-p:32:32-Fi8-i64:64-v128:64:128-a:0:32-n32-S64"/' \
   -e "/^target triple/s/\".*\"/\"$triple-unknown-eabi\"/" \
   -e 's/ "target-cpu"="[^"]*"//; s/ "target-features"="[^"]*"//; s/ "tune-cpu"="[^"]*"//' \
-  -e 's/ "probe-stack"="[^"]*"//; s/ "stack-probe-size"="[^"]*"//; s/ = ptrtoaddr ptr / = ptrtoint ptr /' "$out/module.ll" >"$out/chip.ll"
+  -e 's/ "probe-stack"="[^"]*"//; s/ "stack-probe-size"="[^"]*"//' -f "$here/narrow.sed" "$out/module.ll" >"$out/chip.ll"
 "$clang" --target="$triple-eabi" -mcpu="$chip" -mfloat-abi=soft -O2 -ffunction-sections -fdata-sections -Wno-override-module \
   -c -x ir "$out/chip.ll" -o "$out/chip.o"
 rm -f "$out/libpothatch_chip.a"

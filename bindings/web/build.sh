@@ -19,10 +19,9 @@ if [ -z "${MODULE:-}" ]; then
 fi
 layout="e-m:e-p:32:32-p10:8:8-p20:8:8-i64:64-i128:128-n32:64-S128-ni:1:10:20"
 "$clang" -S -emit-llvm -O0 -Xclang -disable-llvm-passes -Wno-override-module "$MODULE" -o "$work/module.ll"
-# Where a pointer has 32 bits, ptrtoaddr gives no 64: ptrtoint extends the address with zeros.
 sed -e "/^target datalayout/s/\".*\"/\"$layout\"/" -e '/^target triple/s/".*"/"wasm32-unknown-unknown"/' \
   -e 's/ "target-cpu"="[^"]*"//; s/ "target-features"="[^"]*"//; s/ "tune-cpu"="[^"]*"//' \
-  -e 's/ "probe-stack"="[^"]*"//; s/ "stack-probe-size"="[^"]*"//; s/ = ptrtoaddr ptr / = ptrtoint ptr /' \
+  -e 's/ "probe-stack"="[^"]*"//; s/ "stack-probe-size"="[^"]*"//' -f "$here/../narrow.sed" \
   "$work/module.ll" >"$work/web.ll"
 "$clang" --target=wasm32-unknown-unknown -Oz -mbulk-memory -ffunction-sections -fdata-sections -Wno-override-module -c -x ir \
   "$work/web.ll" -o "$work/web.o"

@@ -1,14 +1,19 @@
--- Eight bytes one by one are the board; with it the fields of a header and a record are those of the definitions.
-use Prim.Native.Nat.{ℕ, ◌+◌, ◌/◌, ◌%◌, ◌≤◌}
+-- Eight bytes one by one are the board; twelve bytes of fields and the check behind them.
+use Prim.Native.Nat.{ℕ, ◌+◌, ◌/◌, ◌%◌, ◌≤◌, ◌<◌}
 use mathlib.Core.Path.{◌≡◌, refl, sym, ap, ◌∙◌}
 use mathlib.Core.List.{List, [], ◌∷◌, ◌++◌}
 use native.Mathlib.Omega.{arith}
 use lib.ListN.{length, get_or, take, drop, length-drop}
 use lib.Seq.{get_or-take, get_or-drop, length-take-le}
+use lib.ListN.{drop_of_length-le, length-append}
+use lib.Seq.{take-append_seam}
+use mathlib.Core.List.{append-nil}
+use borrow.Rule.Slice.PartMut.{put_mid}
+use Rattle.std.proofs.lemmas.Slice.{put_mid-paste}
+use Rattle.std.proofs.lemmas.List.Edits.{paste_all}
 use Rattle.lemmas.specs.lists.Table.{table}
 use Rattle.lemmas.specs.lists.TableLemmas.{table-self}
-use Rattle.address_journal.specs.Crc32.{crc32}
-use Rattle.address_journal.specs.Format.{four_bytes, header_fields, header_check, header_of, record_fields, check_of, record_with, board_in}
+use Rattle.address_journal.specs.Format.{four_bytes, board_in}
 
 pub eight : (b : List ℕ) → length b ≡ 8
     → (get_or b 0 0 ∷ get_or b 1 0 ∷ get_or b 2 0 ∷ get_or b 3 0 ∷ get_or b 4 0 ∷ get_or b 5 0 ∷ get_or b 6 0 ∷ get_or b 7 0 ∷ []) ≡ b
@@ -35,30 +40,19 @@ board-is s h = part-is s 0 (omega arith)
 pub length-board : (s : List ℕ) → 16 ≤ length s → length (board_in s) ≡ 8
 length-board s h = length-take-le 8 (drop 1 s) (rw (length-drop 1 s) (omega arith))
 
-fields-are : (k a : ℕ) (b : List ℕ) → length b ≡ 8
-    → (k ∷ get_or b 0 0 ∷ get_or b 1 0 ∷ get_or b 2 0 ∷ get_or b 3 0 ∷ get_or b 4 0 ∷ get_or b 5 0 ∷ get_or b 6 0 ∷ get_or b 7 0
-    ∷ a / 256 ∷ a % 256 ∷ 0 ∷ [])
-    ≡ record_fields k b a
-fields-are k a b e = ap (λ (l : List ℕ). k ∷ (l ++ (a / 256 ∷ a % 256 ∷ 0 ∷ []))) (eight b e)
+-- the fields, and the check behind them
+with-is : (f b : List ℕ) → length f ≡ 12 → length b ≡ 4 → put_mid 12 4 (f ++ (0 ∷ 0 ∷ 0 ∷ 0 ∷ [])) b ≡ f ++ b
+with-is f b h l =
+    let zeros : List ℕ = 0 ∷ 0 ∷ 0 ∷ 0 ∷ [] in
+    let q : 4 ≡ length b = omega arith in
+    let t : take 12 (f ++ zeros) ≡ f = rw h at (take-append_seam f zeros) in
+    let d : drop 16 (f ++ zeros) ≡ [] = drop_of_length-le (f ++ zeros) {i = 16} (omega (arith, length-append f zeros)) in
+    put_mid-paste 12 4 (f ++ zeros) b b 4 refl refl q ∙ paste_all (f ++ zeros) 12 b 4 q ∙ rw (t, d, append-nil)
 
-pub check-is : (k a p x : ℕ) (b : List ℕ) → length b ≡ 8
-    → x ≡ crc32 p (k ∷ get_or b 0 0 ∷ get_or b 1 0 ∷ get_or b 2 0 ∷ get_or b 3 0 ∷ get_or b 4 0 ∷ get_or b 5 0 ∷ get_or b 6 0 ∷ get_or b 7 0
-    ∷ a / 256 ∷ a % 256 ∷ 0 ∷ [])
-    → x ≡ check_of k b a p
-unfolding check_of
-check-is k a p x b e q = q ∙ ap (λ (l : List ℕ). crc32 p l) (fields-are k a b e)
-
-pub record_is : (k a x : ℕ) (b : List ℕ) → length b ≡ 8
-    → (k ∷ get_or b 0 0 ∷ get_or b 1 0 ∷ get_or b 2 0 ∷ get_or b 3 0 ∷ get_or b 4 0 ∷ get_or b 5 0 ∷ get_or b 6 0 ∷ get_or b 7 0
-    ∷ a / 256 ∷ a % 256 ∷ 0 ∷ x / 0x1000000 ∷ x / 0x10000 % 256 ∷ x / 0x100 % 256 ∷ x % 256 ∷ [])
-    ≡ record_with k b a x
-unfolding record_with
-record_is k a x b e = ap (λ (l : List ℕ). l ++ four_bytes x) (fields-are k a b e)
-
-pub header_is : (first size x : ℕ) → x ≡ header_check first size → header_fields first size ++ four_bytes x ≡ header_of first size
-unfolding header_of
-header_is first size x q = rw q
-
-pub header-check-is : (first size x : ℕ) → x ≡ crc32 0 (header_fields first size) → x ≡ header_check first size
-unfolding header_check
-header-check-is first size x q = q
+pub with_check-is : (f g b : List ℕ) (n : ℕ) → length g ≡ 12 → g ≡ f → n < 0x100000000
+    → b ≡ n / 0x1000000 % 256 ∷ n / 0x10000 % 256 ∷ n / 0x100 % 256 ∷ n % 256 ∷ []
+    → put_mid 12 4 (g ++ (0 ∷ 0 ∷ 0 ∷ 0 ∷ [])) b ≡ f ++ four_bytes n
+with_check-is f g b n h e k q =
+    let t : n / 0x1000000 % 256 ≡ n / 0x1000000 = omega arith in
+    let c : b ≡ four_bytes n = rw t at q in
+    with-is g b h (ap (λ (l : List ℕ). length l) c) ∙ rw (e, c)

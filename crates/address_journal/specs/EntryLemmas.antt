@@ -3,10 +3,10 @@
 use Rattle.std.specs.Prelude.{ℕ, ◌+◌}
 use Rattle.address_slots.specs.declared.slot.SlotFound.{SlotFound}
 use Rattle.address_slots.specs.declared.slot.SlotFound.TheVariants as found
-use Rattle.address_journal.specs.declared.due.Due.{Due}
-use Rattle.address_journal.specs.declared.due.Due.TheVariants.{Record, Nothing}
+use Rattle.std.specs.Prelude.{Option}
+use Rattle.std.specs.Prelude.{Some, None}
 
-abbrev pub new_in : ℕ → SlotFound → Due
-new_in first (found.Held k) = Nothing
-new_in first (found.Free k) = Record (first + k)
-new_in first found.Nothing = Nothing
+abbrev pub new_in : ℕ → SlotFound → Option ℕ
+new_in first (found.Held k) = None
+new_in first (found.Free k) = Some (first + k)
+new_in first found.Nothing = None

@@ -23,10 +23,8 @@ pub fn crc32(before: u32, bytes: &[u8]) -> u32
     ensures { result ≡ crc32 before bytes.now }
 {
     let mut x = before ^ 0xffffffff;
-    let mut i = 0;
-    while i < bytes.len() {
-        x = crc_byte(x, bytes[i]);
-        i += 1;
+    for byte in bytes {
+        x = crc_byte(x, *byte);
     }
     x ^ 0xffffffff
 }

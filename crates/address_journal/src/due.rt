@@ -8,81 +8,61 @@ ghost use Rattle.address_journal.specs.EntryLemmas.{new_in};
 
 use crate::format::{check_of, record_with};
 use crate::held::held_address;
+use address_ledger::Ledger;
 use address_ledger::range::{count, judge};
-use address_ledger::{AddressAnswer, Ledger};
 use address_slots::{SlotFound, find_slot};
-use refusal::Verdict;
 
-// What a call would append: a record with this address, or nothing.
-#[derive(Clone, Copy)]
-pub enum Due {
-    Record(u16),
-    Nothing,
-}
-
-// Whether a record is due, its bytes (zeros where none is), and the check afterwards.
+// The bytes of the record that is due, if one is, and the check afterwards.
 #[derive(Clone, Copy)]
 pub(crate) struct Entry {
-    pub(crate) due: bool,
-    pub(crate) bytes: [u8; 16],
+    pub(crate) due: Option<[u8; 16]>,
     pub(crate) check: u32,
 }
 
 // The address that is granted newly among the first `count` slots.
-fn grant_due_in(ledger: Ledger, count: usize, memory: &[u8], board: &[u8; 8]) -> Due
+fn grant_due_in(ledger: Ledger, count: usize, memory: &[u8], board: &[u8; 8]) -> Option<u16>
     requires { Usable ledger.first (length memory.now) count }
     ensures { result ≡ new_in ledger.first (slot_found_by ledger.summary board.now (slots count memory.now)) }
 {
-    let sought = find_slot(memory, count, ledger.summary, board);
-    match sought {
-        SlotFound::Held(_) => Due::Nothing,
-        SlotFound::Free(slot) => Due::Record((ledger.first + slot) as u16),
-        SlotFound::Nothing => Due::Nothing,
+    match find_slot(memory, count, ledger.summary, board) {
+        SlotFound::Free(slot) => Some((ledger.first + slot) as u16),
+        SlotFound::Held(_) | SlotFound::Nothing => None,
     }
 }
 
 // The record of a grant.
-pub(crate) fn grant_due(ledger: Ledger, memory: &[u8], board: &[u8; 8]) -> Due
+pub(crate) fn grant_due(ledger: Ledger, memory: &[u8], board: &[u8; 8]) -> Option<u16>
     ensures { result ≡ grant_due ledger memory.now board.now }
 {
     match judge(ledger.first, ledger.size, memory.len()) {
-        Verdict::Refused(_) => Due::Nothing,
-        Verdict::Accepted => grant_due_in(ledger, count(ledger.first, ledger.size), memory, board),
+        Err(_) => None,
+        Ok(()) => grant_due_in(ledger, count(ledger.first, ledger.size), memory, board),
     }
 }
 
 // The record of a give back.
-pub(crate) fn back_due(ledger: Ledger, memory: &[u8], board: &[u8; 8]) -> Due
+#[tactic(auto, using(crate::proofs::Dues::due_back))]
+pub(crate) fn back_due(ledger: Ledger, memory: &[u8], board: &[u8; 8]) -> Option<u16>
     ensures { result ≡ back_due ledger memory.now board.now }
 {
-    let answer = held_address(ledger, memory, board);
-    match answer {
-        AddressAnswer::Address(address) => Due::Record(address),
-        AddressAnswer::Refused(_) => Due::Nothing,
-    }
+    held_address(ledger, memory, board).ok()
 }
 
 // The bytes of a record of this kind that is due after the check `previous`.
-pub(crate) fn entry_of(kind: u8, board: [u8; 8], previous: u32, due: Due) -> Entry
-    ensures { written result.due result.bytes result.check ≡ entry_of kind board previous due }
+pub(crate) fn entry_of(kind: u8, board: [u8; 8], previous: u32, due: Option<u16>) -> Entry
+    ensures { written result.due result.check ≡ entry_of kind board previous due }
 {
     match due {
-        Due::Record(address) => {
+        Some(address) => {
             let check = check_of(kind, board, address, previous);
-            let bytes = record_with(kind, board, address, check);
             Entry {
-                due: true,
-                bytes,
+                due: Some(record_with(kind, board, address, check)),
                 check,
             }
         }
-        Due::Nothing => {
-            let bytes = [0u8; 16];
-            Entry {
-                due: false,
-                bytes,
-                check: previous,
-            }
-        }
+        None => Entry {
+            due: None,
+            check: previous,
+        },
     }
 }

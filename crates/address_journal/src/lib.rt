@@ -12,8 +12,7 @@ mod share;
 
 pub use calls::{RecordedCall, give_back, grant};
 pub use crc::crc32;
-pub use due::Due;
 pub use format::{header_check, header_of};
-pub use held::{Holder, held_address, holder_of};
-pub use resume::{DAMAGED, ResumeResult, ResumeStep, resume_header, resume_record};
+pub use held::{held_address, holder_of};
+pub use resume::{DAMAGED, ResumeError, ResumeResult, ResumeStep, resume_header, resume_record};
 pub use share::{Part, part_of};

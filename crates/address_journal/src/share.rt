@@ -3,6 +3,7 @@ ghost use Rattle.std.specs.Prelude.{◌≡◌};
 ghost use Rattle.address_journal.specs.Share.{part_of, no_part};
 
 // The range of one fixture.
+// Kept: `part_of` says that a fixture there is not has the range of first address 0 and size 0, which opening refuses with RANGE.
 #[derive(Clone, Copy)]
 pub struct Part {
     pub first: usize,

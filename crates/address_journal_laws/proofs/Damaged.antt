@@ -1,4 +1,5 @@
 -- A record is taken in one way only; so a changed one is another call's, or does not fit.
+use Rattle.std.specs.Prelude.{Ok, Err}
 use Prim.Native.Nat.{ℕ, zero, suc, ◌+◌, ◌-◌, ◌/◌, ◌%◌, ◌≤◌, ◌<◌}
 use mathlib.Core.Path.{◌≡◌, refl, sym, ap, ◌∙◌}
 use mathlib.Core.Bool.{Bool, true, false}
@@ -25,24 +26,25 @@ use Rattle.lemmas.specs.lists.Digits.{digits}
 use Rattle.address_ledger.specs.declared.ledger.Ledger.{Ledger}
 use Rattle.address_journal.specs.Crc32.{crc32}
 use Rattle.address_journal.specs.Format.{four_bytes, record_fields, record_with, record_of, check_of, kind_in, board_in, zero_record}
-use Rattle.address_journal.specs.declared.due.Due.{Due}
-use Rattle.address_journal.specs.declared.due.Due.TheVariants.{Record, Nothing}
-use Rattle.address_journal.specs.declared.resume.ResumeStep.TheVariants.{Taken, Cut, Damaged}
+use Rattle.std.specs.Prelude.{Option}
+use Rattle.std.specs.Prelude.{Some, None}
+use Rattle.address_journal.specs.declared.resume.ResumeStep.TheVariants.{Taken, Cut}
+use Rattle.address_journal.specs.declared.resume.ResumeError.TheVariants.{Damaged}
 use Rattle.address_journal.specs.Entry.{grant_due, back_due, entry_of}
-use Rattle.address_journal.specs.Resume.{resumed, entry_here, fits, resume_record}
+use Rattle.address_journal.specs.Resume.{Step, resumed, entry_here, fits, resume_record}
 use Rattle.address_journal_laws.specs.Damage.{Octets, IsTaken, DamageFound}
 use Rattle.address_journal_laws.proofs.Remainder.{one-changed}
 
-cut-not : Cut ≡ Taken → ⊥
+cut-not : ◌≡◌ {A = Step} (Ok Cut) (Ok Taken) → ⊥
 cut-not e = let z : ◌≡◌ {A = ℕ} 0 1 = cc in omega arith
 
-damaged-not : Damaged ≡ Taken → ⊥
+damaged-not : ◌≡◌ {A = Step} (Err Damaged) (Ok Taken) → ⊥
 damaged-not e = let z : ◌≡◌ {A = ℕ} 0 1 = cc in omega arith
 
-taken_not : Taken ≡ Damaged → ⊥
+taken_not : ◌≡◌ {A = Step} (Ok Taken) (Err Damaged) → ⊥
 taken_not e = let z : ◌≡◌ {A = ℕ} 0 1 = cc in omega arith
 
-cut-not-damaged : Cut ≡ Damaged → ⊥
+cut-not-damaged : ◌≡◌ {A = Step} (Ok Cut) (Err Damaged) → ⊥
 cut-not-damaged e = let z : ◌≡◌ {A = ℕ} 0 1 = cc in omega arith
 
 -- ---- how a record is taken
@@ -62,15 +64,15 @@ module _ (l : Ledger) (m : List ℕ) (c : ℕ) (r : List ℕ) where
   own : IsTaken l m c r → Own l m c r
   own e = own-by _ _ _ refl refl refl e
 
-  unchanged-by : (u v w : Bool) → ltb (length r) 16 ≡ u → same r zero_record ≡ v → fits l m c r ≡ w → (resume_record l m c r).step ≡ Damaged
-      → resume_record l m c r ≡ resumed Damaged l c m
+  unchanged-by : (u v w : Bool) → ltb (length r) 16 ≡ u → same r zero_record ≡ v → fits l m c r ≡ w → (resume_record l m c r).step ≡ Err Damaged
+      → resume_record l m c r ≡ resumed (Err Damaged) l c m
   unfolding resume_record
   unchanged-by true v w p q f e = absurd (cut-not-damaged (rw p at e))
   unchanged-by false true w p q f e = absurd (cut-not-damaged (rw (p, q) at e))
   unchanged-by false false true p q f e = absurd (taken_not (rw (p, q, f) at e))
   unchanged-by false false false p q f e = rw (p, q, f)
 
-  unchanged : (resume_record l m c r).step ≡ Damaged → resume_record l m c r ≡ resumed Damaged l c m
+  unchanged : (resume_record l m c r).step ≡ Err Damaged → resume_record l m c r ≡ resumed (Err Damaged) l c m
   unchanged e = unchanged-by _ _ _ refl refl refl e
 
 -- ---- one record of one kind and one board
@@ -104,11 +106,11 @@ Checked c r = drop 12 r ≡ four_bytes (crc32 c (take 12 r))
 checked : (k : ℕ) (b : List ℕ) (a c : ℕ) → length b ≡ 8 → Checked c (record_of k b a c)
 checked k b a c e = last-four k b a c e ∙ ap (λ (x : List ℕ). four_bytes (crc32 c x)) (sym (first-twelve k b a c e))
 
-due-checked : (k : ℕ) (b : List ℕ) (c : ℕ) (d : Due) (r : List ℕ) → r ≡ (entry_of k b c d).bytes → 16 ≤ length r → length b ≡ 8
+due-checked : (k : ℕ) (b : List ℕ) (c : ℕ) (d : Option ℕ) (r : List ℕ) → r ≡ (entry_of k b c d).bytes → 16 ≤ length r → length b ≡ 8
     → Checked c r
 unfolding entry_of
-due-checked k b c (Record a) r q h e = rw q (checked k b a c e)
-due-checked k b c Nothing r q h e = let z = ap length q in absurd (omega (arith, h, z))
+due-checked k b c (Some a) r q h e = rw q (checked k b a c e)
+due-checked k b c None r q h e = let z = ap length q in absurd (omega (arith, h, z))
 
 kind-checked : (l : Ledger) (m : List ℕ) (c k : ℕ) (b r : List ℕ) (v w : Bool) → eqb k 1 ≡ v → eqb k 2 ≡ w
     → r ≡ (entry_here k l m b c).bytes → 16 ≤ length r → length b ≡ 8 → Checked c r

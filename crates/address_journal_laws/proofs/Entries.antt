@@ -1,4 +1,6 @@
 -- A call either appends nothing and changes nothing, or appends a record that is taken again.
+use Rattle.std.specs.Prelude.{Result, Ok, Err}
+use Rattle.refusal.specs.declared.Refusal.{Refusal}
 use Prim.Native.Nat.{ℕ}
 use mathlib.Core.Path.{◌≡◌, refl, subst, ap}
 use mathlib.Core.Bool.{Bool, true, false}
@@ -17,16 +19,14 @@ use Rattle.lemmas.specs.lists.TableLemmas.{table-self}
 use Rattle.address_slots.specs.Slot.{held_by, has}
 use Rattle.address_ledger.specs.Ledger.{places_of, granted, given_back}
 use Rattle.address_ledger.specs.Answers.{address_verdict}
-use Rattle.address_ledger.specs.declared.answer.AddressAnswer.{AddressAnswer}
-use Rattle.address_ledger.specs.declared.answer.AddressAnswer.TheVariants.{Address, Refused}
 use Rattle.address_ledger.specs.declared.ledger.Ledger.{Ledger}
 use Rattle.address_ledger_laws.specs.History.{Moment, step, whole_boards}
 use Rattle.address_ledger_laws.specs.Counts.{Moves}
 use Rattle.address_ledger_laws.specs.Written.{Written}
 use Rattle.address_ledger_laws.specs.Demand1.{Demand1, asking, returning, perform}
 use Rattle.address_journal.specs.Format.{record_with, record_of, kind_in, board_in, address_in, zero_record}
-use Rattle.address_journal.specs.declared.due.Due.{Due}
-use Rattle.address_journal.specs.declared.due.Due.TheVariants.{Record, Nothing}
+use Rattle.std.specs.Prelude.{Option}
+use Rattle.std.specs.Prelude.{Some, None}
 use Rattle.address_journal.specs.declared.resume.ResumeStep.TheVariants.{Taken}
 use Rattle.address_journal.specs.Entry.{due_for, grant_due, back_due, entry_of}
 use Rattle.address_journal.specs.Resume.{resumed, taken, entry_here, outcome_here, resume_record}
@@ -89,10 +89,10 @@ pub record Quiet (first size : ℕ) (s : Moment) (c : ℕ) (k : Change) : Type 0
 pub record Loud (first size : ℕ) (s : Moment) (c : ℕ) (k : Change) : Type 0 where
   pub long : length (entry s c k).bytes ≡ 16
   pub taken : resume_record s.ledger s.memory c (entry s c k).bytes
-      ≡ resumed Taken (step first size s (call_of k)).ledger (entry s c k).check (step first size s (call_of k)).memory
+      ≡ resumed (Ok Taken) (step first size s (call_of k)).ledger (entry s c k).check (step first size s (call_of k)).memory
 
 module _ (w : CallLaws) (first size : ℕ) (s : Moment) (c : ℕ) (b : List ℕ) (e : length b ≡ 8) where
-  asked-loud : (a : ℕ) → grant_due s.ledger s.memory b ≡ Record a → Loud first size s c (grants b)
+  asked-loud : (a : ℕ) → grant_due s.ledger s.memory b ≡ Some a → Loud first size s c (grants b)
   unfolding entry entry_of entry_here outcome_here step
   asked-loud a q =
       let g : (entry_of 1 b c (grant_due s.ledger s.memory b)).bytes ≡ record_of 1 b a c = rw q in
@@ -101,7 +101,7 @@ module _ (w : CallLaws) (first size : ℕ) (s : Moment) (c : ℕ) (b : List ℕ)
         taken = rw g (record-again 1 refl s.ledger s.memory b a c e g);
       }
 
-  gave-loud : (a : ℕ) → back_due s.ledger s.memory b ≡ Record a → Loud first size s c (backs b)
+  gave-loud : (a : ℕ) → back_due s.ledger s.memory b ≡ Some a → Loud first size s c (backs b)
   unfolding entry entry_of entry_here outcome_here step
   gave-loud a q =
       let g : (entry_of 2 b c (back_due s.ledger s.memory b)).bytes ≡ record_of 2 b a c = rw q in
@@ -110,42 +110,42 @@ module _ (w : CallLaws) (first size : ℕ) (s : Moment) (c : ℕ) (b : List ℕ)
         taken = rw g (record-again 2 refl s.ledger s.memory b a c e g);
       }
 
-  no_record : (a : ℕ) → Record a ≡ Nothing → ⊥
+  no_record : (a : ℕ) → Some a ≡ None → ⊥
   no_record a q = let z : ◌≡◌ {A = ℕ} 0 1 = cc in omega arith
 
-  asked-refused : (x : AddressAnswer) → (granted s.ledger s.memory b).answer ≡ x → due_for x ≡ Nothing
+  asked-refused : (x : Result ℕ Refusal) → (granted s.ledger s.memory b).answer ≡ x → due_for x ≡ None
       → ((granted s.ledger s.memory b).ledger ≡ s.ledger) × ((granted s.ledger s.memory b).memory ≡ s.memory)
   unfolding perform
-  asked-refused (Address a) q d = absurd (no_record a d)
-  asked-refused (Refused r) q d =
+  asked-refused (Ok a) q d = absurd (no_record a d)
+  asked-refused (Err r) q d =
       let u = w.refusals.untouched (asking b) s.ledger s.memory r (ap address_verdict q) in
       (u.ledger, u.memory)
 
-  asked-same : (v : Bool) → has (held_by b) (places_of s.ledger s.memory) ≡ v → grant_due s.ledger s.memory b ≡ Nothing
+  asked-same : (v : Bool) → has (held_by b) (places_of s.ledger s.memory) ≡ v → grant_due s.ledger s.memory b ≡ None
       → ((granted s.ledger s.memory b).ledger ≡ s.ledger) × ((granted s.ledger s.memory b).memory ≡ s.memory)
   unfolding grant_due
   asked-same true h q = (w.moves.granted-again s.ledger s.memory b h, w.stored.granted-again s.ledger s.memory b h)
   asked-same false h q = asked-refused _ refl (rw h at q)
 
-  asked : (d : Due) → grant_due s.ledger s.memory b ≡ d → Quiet first size s c (grants b) ⊎ Loud first size s c (grants b)
+  asked : (d : Option ℕ) → grant_due s.ledger s.memory b ≡ d → Quiet first size s c (grants b) ⊎ Loud first size s c (grants b)
   unfolding entry entry_of step
-  asked (Record a) q = inr (asked-loud a q)
-  asked Nothing q =
+  asked (Some a) q = inr (asked-loud a q)
+  asked None q =
       let u = asked-same _ refl q in
       inl (record { bytes = rw q; check = rw q; ledger = u.0; memory = u.1 })
 
-  gave-refused : (x : AddressAnswer) → (given_back s.ledger s.memory b).answer ≡ x → due_for x ≡ Nothing
+  gave-refused : (x : Result ℕ Refusal) → (given_back s.ledger s.memory b).answer ≡ x → due_for x ≡ None
       → ((given_back s.ledger s.memory b).ledger ≡ s.ledger) × ((given_back s.ledger s.memory b).memory ≡ s.memory)
   unfolding perform
-  gave-refused (Address a) q d = absurd (no_record a d)
-  gave-refused (Refused r) q d =
+  gave-refused (Ok a) q d = absurd (no_record a d)
+  gave-refused (Err r) q d =
       let u = w.refusals.untouched (returning b) s.ledger s.memory r (ap address_verdict q) in
       (u.ledger, u.memory)
 
-  gave : (d : Due) → back_due s.ledger s.memory b ≡ d → Quiet first size s c (backs b) ⊎ Loud first size s c (backs b)
+  gave : (d : Option ℕ) → back_due s.ledger s.memory b ≡ d → Quiet first size s c (backs b) ⊎ Loud first size s c (backs b)
   unfolding entry entry_of step back_due
-  gave (Record a) q = inr (gave-loud a q)
-  gave Nothing q =
+  gave (Some a) q = inr (gave-loud a q)
+  gave None q =
       let u = gave-refused _ refl q in
       inl (record { bytes = rw q; check = rw q; ledger = u.0; memory = u.1 })
 

@@ -1,4 +1,5 @@
 -- A whole journal is resumed; a prefix of one is a whole one and a few bytes more.
+use Rattle.std.specs.Prelude.{Ok}
 use Prim.Native.Nat.{ℕ, suc, ◌+◌, ◌-◌, ◌≤◌, ◌<◌}
 use mathlib.Core.Path.{◌≡◌, refl, sym, ap, ◌∙◌}
 use mathlib.Core.Bool.{Bool, true, false, cond}
@@ -13,7 +14,6 @@ use lib.Seq.{take_at, drop_at, take-append-le, take-append-add, length-take-le, 
 use Rattle.lemmas.specs.logic.Tests.{both_true}
 use Rattle.lemmas.specs.lists.Same.{same}
 use Rattle.lemmas.specs.lists.SameLemmas.{same_refl}
-use Rattle.refusal.specs.declared.Verdict.TheVariants.{Accepted}
 use Rattle.address_ledger.specs.range.Range.{judged}
 use Rattle.address_ledger.specs.Ledger.{empty_ledger, opened_by, opened}
 use Rattle.address_ledger.specs.declared.ledger.Ledger.{Ledger}
@@ -44,8 +44,8 @@ header-size : (first size : ℕ) → two_at (header_of first size) 8 ≡ size
 unfolding header_of
 header-size first size = div-add-mod' size 256
 
-header-opens : (first size : ℕ) (m : List ℕ) → Accepted ≡ judged first size (length m)
-    → resume_header m (header_of first size) ≡ resumed Taken (opened first size m).ledger (header_check first size) m
+header-opens : (first size : ℕ) (m : List ℕ) → Ok tt ≡ judged first size (length m)
+    → resume_header m (header_of first size) ≡ resumed (Ok Taken) (opened first size m).ledger (header_check first size) m
 unfolding resume_header opened opened_by begun
 header-opens first size m a =
     rw (
@@ -58,18 +58,18 @@ header-opens first size m a =
     )
 
 -- ---- a whole journal and an end
-opens-then : (m bytes : List ℕ) (l : Ledger) (c : ℕ) → resume_header m (take 16 bytes) ≡ resumed Taken l c m
-    → resume m bytes ≡ resume_records (suc (length bytes)) (resumed Taken l c m) 16 (drop 16 bytes)
+opens-then : (m bytes : List ℕ) (l : Ledger) (c : ℕ) → resume_header m (take 16 bytes) ≡ resumed (Ok Taken) l c m
+    → resume m bytes ≡ resume_records (suc (length bytes)) (resumed (Ok Taken) l c m) 16 (drop 16 bytes)
 unfolding resume go_on
 opens-then m bytes l c e = rw e
 
-module _ (m h r t : List ℕ) (l : Ledger) (c : ℕ) (e : length h ≡ 16) (g : resume_header m h ≡ resumed Taken l c m) where
-  all-bytes : (z : Restart) → resume_records (suc (length ((h ++ r) ++ t))) (resumed Taken l c m) 16 (r ++ t) ≡ z
+module _ (m h r t : List ℕ) (l : Ledger) (c : ℕ) (e : length h ≡ 16) (g : resume_header m h ≡ resumed (Ok Taken) l c m) where
+  all-bytes : (z : Restart) → resume_records (suc (length ((h ++ r) ++ t))) (resumed (Ok Taken) l c m) 16 (r ++ t) ≡ z
       → resume m ((h ++ r) ++ t) ≡ z
   all-bytes z w =
       opens-then m ((h ++ r) ++ t) l c (rw (append_assoc h r t, take_at h (r ++ t) 16 e) g)
       ∙ (let d : drop 16 ((h ++ r) ++ t) ≡ r ++ t = rw (append_assoc h r t) (drop_at h (r ++ t) 16 e) in
-      ap (λ (x : List ℕ). resume_records (suc (length ((h ++ r) ++ t))) (resumed Taken l c m) 16 x) d)
+      ap (λ (x : List ℕ). resume_records (suc (length ((h ++ r) ++ t))) (resumed (Ok Taken) l c m) 16 x) d)
       ∙ w
 
 pub whole-resumes : CallLaws → (first size : ℕ) (m : List ℕ) (cs : List Change) → Starts first size m cs → (t : List ℕ) → End t
@@ -87,9 +87,9 @@ whole-resumes laws first size m cs w t e =
     ) in
     all-bytes m (header_of first size) r t (opened first size m).ledger c (header-long first size) (header-opens first size m
     w.accepted) _
-    (walks laws first size t e cs s c w.boards (suc (length ((header_of first size ++ r) ++ t))) 16 Taken
+    (walks laws first size t e cs s c w.boards (suc (length ((header_of first size ++ r) ++ t))) 16 (Ok Taken)
     (omega (arith, length-append (header_of first size ++ r) t, length-append (header_of first size) r, length-append r t))
-    ∙ ap (λ (j : ℕ). restart (resumed Cut (after_changes first size m cs).ledger (check_after first size m cs)
+    ∙ ap (λ (j : ℕ). restart (resumed (Ok Cut) (after_changes first size m cs).ledger (check_after first size m cs)
     (after_changes first size m cs).memory) j) n)
 
 -- ---- a part of the records
@@ -199,8 +199,8 @@ module _ (laws : CallLaws) (first size : ℕ) (m : List ℕ) (cs : List Change) 
       ap (λ (b : List ℕ). resume m b) x.1.0
       ∙ whole-resumes laws first size m (whole_in first size m n cs) lasting-begins x.0 (end_short x.0 x.1.1)
 
-cut-header : (m bytes : List ℕ) → length bytes < 16 → resume_header m (take 16 bytes) ≡ resumed Cut empty_ledger 0 m
-    → resume m bytes ≡ restart (resumed Cut empty_ledger 0 m) 0
+cut-header : (m bytes : List ℕ) → length bytes < 16 → resume_header m (take 16 bytes) ≡ resumed (Ok Cut) empty_ledger 0 m
+    → resume m bytes ≡ restart (resumed (Ok Cut) empty_ledger 0 m) 0
 unfolding resume go_on
 cut-header m bytes h e = rw (e, le-leb (length bytes) 16 (omega arith))
 

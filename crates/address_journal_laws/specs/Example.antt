@@ -1,11 +1,11 @@
 -- Non-vacuity: a shift with power cuts, computed. The memory was not zero before, and a byte follows the last slot.
-use Rattle.std.specs.Prelude.{ℕ, ◌≡◌, List, [], ◌∷◌, ◌++◌, length, replicate, take, drop, set}
+use Rattle.std.specs.Prelude.{Err}
+use Rattle.std.specs.Prelude.{ℕ, ◌≡◌, List, [], ◌∷◌, ◌++◌, length, replicate, take, drop, set, Ok}
 use Rattle.address_ledger.specs.Ledger.{granted}
-use Rattle.address_ledger.specs.declared.answer.AddressAnswer.TheVariants.{Address}
 use Rattle.address_ledger_laws.specs.History.{Holding}
 use Rattle.address_journal.specs.Crc32.{crc32}
 use Rattle.address_journal.specs.Resume.{resume}
-use Rattle.address_journal.specs.declared.resume.ResumeStep.TheVariants.{Damaged}
+use Rattle.address_journal.specs.declared.resume.ResumeError.TheVariants.{Damaged}
 use Rattle.address_journal_laws.specs.Journal.{grants, Event, answers, cuts, zeros, Program, program_after, lasting, changes}
 use Rattle.address_journal_laws.specs.Laws.{Starts, holdings}
 
@@ -39,7 +39,7 @@ pub record JournalExample : Type 0 where
   -- the fourth board has the address for which the third got no answer, and the file has three records
   pub memory : program.memory ≡ (1 ∷ board 10) ++ ((1 ∷ board 11) ++ ((1 ∷ board 13) ++ (7 ∷ [])))
   pub long : length program.file ≡ 64
-  pub again : (granted program.ledger program.memory (board 10)).answer ≡ Address 0x1000
+  pub again : (granted program.ledger program.memory (board 10)).answer ≡ Ok 0x1000
   -- of the same cut with the whole record in the file, the third board holds the address though it got no answer; with zeros there, it
   -- does not
   pub whole : (program_after 0x1000 3 lent (start ++ (cuts (grants (board 12)) 16 ∷ []))).memory
@@ -47,9 +47,9 @@ pub record JournalExample : Type 0 where
   pub blank : (program_after 0x1000 3 lent (start ++ (zeros (grants (board 12)) ∷ []))).memory
       ≡ (1 ∷ board 10) ++ ((1 ∷ board 11) ++ replicate 10 7)
   -- the second record's board with another last byte: damage at offset 32
-  pub damage : (resume lent (set program.file 40 12)).end.step ≡ Damaged
+  pub damage : (resume lent (set program.file 40 12)).end.step ≡ Err Damaged
   pub offset : (resume lent (set program.file 40 12)).whole ≡ 32
   -- the first record taken out, and the second where it was: neither its check nor its address fits there
-  pub missing : (resume lent (take 16 program.file ++ drop 32 program.file)).end.step ≡ Damaged
+  pub missing : (resume lent (take 16 program.file ++ drop 32 program.file)).end.step ≡ Err Damaged
   -- a second fixture with the next range grants one of the same boards another address
   pub second : holdings 0x1003 3 lent start ≡ holding 10 0x1003 ∷ holding 11 0x1004 ∷ []

@@ -1,8 +1,7 @@
 -- What a journal guarantees. A prefix of a list of events is a list of events, so each law holds at every moment of a shift.
-use Rattle.std.specs.Prelude.{ℕ, ◌+◌, ◌≤◌, ◌<◌, ◌≡◌, true, ◌⊎◌, length, take}
+use Rattle.std.specs.Prelude.{ℕ, ◌+◌, ◌≤◌, ◌<◌, ◌≡◌, true, ◌⊎◌, length, take, Ok}
 use mathlib.Core.List.{List, ◌++◌, Memᴰ}
 use Rattle.address_ledger.specs.Ledger.{empty_ledger, outcome, granted}
-use Rattle.address_ledger.specs.declared.answer.AddressAnswer.TheVariants.{Address}
 use Rattle.address_ledger_laws.specs.History.{Holding, listed, address_of, Begins}
 use Rattle.address_journal.specs.declared.resume.ResumeStep.TheVariants.{Cut}
 use Rattle.address_journal.specs.Resume.{Restart, restart, resumed, resume}
@@ -17,7 +16,7 @@ Starts first size m cs = Begins first size m (calls_of cs)
 -- the ledger, the memory and the check after a history, and the length of its journal
 abbrev pub restarted : ℕ → ℕ → List ℕ → List Change → Restart
 restarted first size m cs =
-    restart (resumed Cut (after_changes first size m cs).ledger (check_after first size m cs) (after_changes first size m cs).memory)
+    restart (resumed (Ok Cut) (after_changes first size m cs).ledger (check_after first size m cs) (after_changes first size m cs).memory)
     (length (journal_of first size m cs))
 
 -- ---- any prefix of a journal, resumed over the same memory, gives what the calls whose records are whole in it gave
@@ -30,7 +29,7 @@ pub record PrefixResumes : Type 0 where
       (length t < 16))
   -- a cut header: nothing was granted, and nothing is
   pub unopened : (first size : ℕ) (m : List ℕ) (cs : List Change) (n : ℕ) → n < 16
-      → resume m (take n (journal_of first size m cs)) ≡ restart (resumed Cut empty_ledger 0 m) 0
+      → resume m (take n (journal_of first size m cs)) ≡ restart (resumed (Ok Cut) empty_ledger 0 m) 0
 
 -- ---- after any calls and power cuts the program and its file are as the calls that last leave them
 pub record IsAfter (first size : ℕ) (m : List ℕ) (cs : List Change) (p : Program) : Type 0 where
@@ -54,7 +53,7 @@ pub record PowerCuts : Type 0 where
   pub again : (first size : ℕ) (m : List ℕ) (es : List Event) → Starts first size m (changes es)
       → (b : List ℕ) → listed b (holdings first size m es) ≡ true
       → granted (program_after first size m es).ledger (program_after first size m es).memory b
-      ≡ outcome (Address (address_of b (holdings first size m es))) (program_after first size m es).ledger
+      ≡ outcome (Ok (address_of b (holdings first size m es))) (program_after first size m es).ledger
       (program_after first size m es).memory
 
 -- ---- several fixtures, each with its own range, memory and file: what one holds no other holds

@@ -1,25 +1,21 @@
 -- What the answers that are no structs say: each case's verdict, and its value.
-use Rattle.std.specs.Prelude.{ℕ}
-use Rattle.refusal.specs.declared.Verdict.{Verdict}
-use Rattle.refusal.specs.declared.Verdict.TheVariants as verdict
-use Rattle.address_ledger.specs.declared.answer.AddressAnswer.{AddressAnswer}
-use Rattle.address_ledger.specs.declared.answer.AddressAnswer.TheVariants.{Address, Refused}
-use Rattle.address_ledger.specs.declared.answer.FreeAnswer.{FreeAnswer}
-use Rattle.address_ledger.specs.declared.answer.FreeAnswer.TheVariants as free
+use Rattle.refusal.specs.declared.Refusal.{Refusal}
+use Rattle.std.specs.Prelude.{ℕ, Result, Ok, Err}
+use Rattle.refusal.specs.Verdict.{Verdict}
 
 -- an address or a count, and 0 beside a refusal
-abbrev pub address_verdict : AddressAnswer → Verdict
-address_verdict (Address a) = verdict.Accepted
-address_verdict (Refused r) = verdict.Refused r
+abbrev pub address_verdict : Result ℕ Refusal → Verdict
+address_verdict (Ok a) = Ok tt
+address_verdict (Err r) = Err r
 
-abbrev pub address_value : AddressAnswer → ℕ
-address_value (Address a) = a
-address_value (Refused r) = 0
+abbrev pub address_value : Result ℕ Refusal → ℕ
+address_value (Ok a) = a
+address_value (Err r) = 0
 
-abbrev pub free_verdict : FreeAnswer → Verdict
-free_verdict (free.Count n) = verdict.Accepted
-free_verdict (free.Refused r) = verdict.Refused r
+abbrev pub free_verdict : Result ℕ Refusal → Verdict
+free_verdict (Ok n) = Ok tt
+free_verdict (Err r) = Err r
 
-abbrev pub free_value : FreeAnswer → ℕ
-free_value (free.Count n) = n
-free_value (free.Refused r) = 0
+abbrev pub free_value : Result ℕ Refusal → ℕ
+free_value (Ok n) = n
+free_value (Err r) = 0

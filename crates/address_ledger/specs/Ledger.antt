@@ -1,33 +1,29 @@
 -- The calls of a ledger: what each answers, and the ledger and the lent memory afterwards.
 -- RANGE comes first, and ROOM next where memory is lent.
-use Rattle.std.specs.Prelude.{ℕ, ◌+◌, ◌-◌, cond, List, leb, length}
+use Rattle.refusal.specs.declared.Refusal.{Refusal}
+use Rattle.std.specs.Prelude.{ℕ, ◌+◌, ◌-◌, cond, List, leb, length, Result, Ok, Err}
 use Rattle.refusal.specs.declared.Refusal.TheVariants.{Range, Full, Unknown}
-use Rattle.refusal.specs.declared.Verdict.{Verdict}
-use Rattle.refusal.specs.declared.Verdict.TheVariants as verdict
+use Rattle.refusal.specs.Verdict.{Verdict}
 use Rattle.address_slots.specs.Slot.{Slot, slots, hold, freed, slot_found}
 use Rattle.address_slots.specs.Marks.{summary_of, refreshed, slot_found_by}
 use Rattle.address_slots.specs.declared.groups.Summary.{Summary}
 use Rattle.address_slots.specs.declared.slot.SlotFound.{SlotFound}
 use Rattle.address_slots.specs.declared.slot.SlotFound.TheVariants.{Held, Free, Nothing}
 use Rattle.address_ledger.specs.range.Range.{in_limits, judged, counted}
-use Rattle.address_ledger.specs.declared.answer.AddressAnswer.{AddressAnswer}
-use Rattle.address_ledger.specs.declared.answer.AddressAnswer.TheVariants.{Address, Refused}
 use Rattle.address_ledger.specs.declared.answer.CallResult.{CallResult}
-use Rattle.address_ledger.specs.declared.answer.FreeAnswer.{FreeAnswer}
-use Rattle.address_ledger.specs.declared.answer.FreeAnswer.TheVariants as free
 use Rattle.address_ledger.specs.declared.answer.OpenResult.{OpenResult}
 use Rattle.address_ledger.specs.declared.ledger.Ledger.{Ledger}
 
 -- what a call answers, and the ledger and the memory as it leaves them
 pub record Outcome : Type 0 where
-  pub answer : AddressAnswer
+  pub answer : Result ℕ Refusal
   pub ledger : Ledger
   pub memory : List ℕ
 
-abbrev pub outcome : AddressAnswer → Ledger → List ℕ → Outcome
+abbrev pub outcome : Result ℕ Refusal → Ledger → List ℕ → Outcome
 outcome a l m = record { answer = a; ledger = l; memory = m }
 
-abbrev pub answered : AddressAnswer → Ledger → CallResult
+abbrev pub answered : Result ℕ Refusal → Ledger → CallResult
 answered a l = record { answer = a; ledger = l }
 
 abbrev pub judged_of : Ledger → List ℕ → Verdict
@@ -52,9 +48,9 @@ abbrev pub with_summary : ℕ → ℕ → Summary → Ledger
 with_summary first size s = ledger_of first size s.free s.bitmap
 
 unfoldable pub opened_by : Verdict → ℕ → ℕ → List ℕ → OpenResult
-opened_by verdict.Accepted first size m =
-    record { verdict = verdict.Accepted; ledger = with_summary first size (summary_of (slots (counted first size) m)) }
-opened_by (verdict.Refused r) first size m = record { verdict = verdict.Refused r; ledger = empty_ledger }
+opened_by (Ok tt) first size m =
+    record { verdict = Ok tt; ledger = with_summary first size (summary_of (slots (counted first size) m)) }
+opened_by (Err r) first size m = record { verdict = Err r; ledger = empty_ledger }
 
 unfoldable pub opened : ℕ → ℕ → List ℕ → OpenResult
 opened first size m = opened_by (judged first size (length m)) first size m
@@ -73,31 +69,31 @@ more n k m l = ledger_of l.first l.size (cut n (l.free + 1)) (refreshed l.summar
 -- ---- granting, where n addresses count: the address that the board holds, again;
 -- else the free one that was found, and its place is written; else FULL
 unfoldable pub granting : ℕ → Ledger → List ℕ → List ℕ → SlotFound → Outcome
-granting n l m b (Held k) = outcome (Address (l.first + k)) l m
-granting n l m b (Free k) = outcome (Address (l.first + k)) (fewer n k (hold m k b) l) (hold m k b)
-granting n l m b Nothing = outcome (Refused Full) l m
+granting n l m b (Held k) = outcome (Ok (l.first + k)) l m
+granting n l m b (Free k) = outcome (Ok (l.first + k)) (fewer n k (hold m k b) l) (hold m k b)
+granting n l m b Nothing = outcome (Err Full) l m
 
 -- a free address is found by the marks
 unfoldable pub granted_by : Verdict → Ledger → List ℕ → List ℕ → Outcome
-granted_by verdict.Accepted l m b = granting (counted_of l) l m b (slot_found_by l.summary b (places_of l m))
-granted_by (verdict.Refused r) l m b = outcome (Refused r) l m
+granted_by (Ok tt) l m b = granting (counted_of l) l m b (slot_found_by l.summary b (places_of l m))
+granted_by (Err r) l m b = outcome (Err r) l m
 
 unfoldable pub granted : Ledger → List ℕ → List ℕ → Outcome
 granted l m b = granted_by (judged_of l m) l m b
 
 -- ---- giving back, where n addresses count: the address that the board holds, and its mark is written; else UNKNOWN
 unfoldable pub giving_back : ℕ → Ledger → List ℕ → SlotFound → Outcome
-giving_back n l m (Held k) = outcome (Address (l.first + k)) (more n k (freed m k) l) (freed m k)
-giving_back n l m (Free k) = outcome (Refused Unknown) l m
-giving_back n l m Nothing = outcome (Refused Unknown) l m
+giving_back n l m (Held k) = outcome (Ok (l.first + k)) (more n k (freed m k) l) (freed m k)
+giving_back n l m (Free k) = outcome (Err Unknown) l m
+giving_back n l m Nothing = outcome (Err Unknown) l m
 
 unfoldable pub given_back_by : Verdict → Ledger → List ℕ → List ℕ → Outcome
-given_back_by verdict.Accepted l m b = giving_back (counted_of l) l m (slot_found b (places_of l m))
-given_back_by (verdict.Refused r) l m b = outcome (Refused r) l m
+given_back_by (Ok tt) l m b = giving_back (counted_of l) l m (slot_found b (places_of l m))
+given_back_by (Err r) l m b = outcome (Err r) l m
 
 unfoldable pub given_back : Ledger → List ℕ → List ℕ → Outcome
 given_back l m b = given_back_by (judged_of l m) l m b
 
 -- ---- how many addresses are free: the kept count, without the memory
-unfoldable pub free_count : Ledger → FreeAnswer
-free_count l = cond (in_limits l.first l.size) (free.Count l.free) (free.Refused Range)
+unfoldable pub free_count : Ledger → Result ℕ Refusal
+free_count l = cond (in_limits l.first l.size) (Ok l.free) (Err Range)

@@ -6,21 +6,12 @@ ghost use Rattle.address_ledger.specs.Ledger.{cut};
 pub(crate) fn one_less(free: usize, count: usize) -> usize
     ensures { result ≡ cut count (free - 1) }
 {
-    if free == 0 {
-        return 0;
-    }
-    if count < free - 1 {
-        return count;
-    }
-    free - 1
+    free.saturating_sub(1).min(count)
 }
 
 // One more; a count that cannot grow is cut.
 pub(crate) fn one_more(free: usize, count: usize) -> usize
     ensures { result ≡ cut count (free + 1) }
 {
-    if free < count {
-        return free + 1;
-    }
-    count
+    free.saturating_add(1).min(count)
 }

@@ -6,5 +6,5 @@ mod free;
 mod ledger;
 pub mod range;
 
-pub use answer::{AddressAnswer, CallResult, FreeAnswer, OpenResult};
+pub use answer::{CallResult, OpenResult};
 pub use ledger::Ledger;

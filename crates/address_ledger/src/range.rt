@@ -4,7 +4,7 @@ ghost use Rattle.short_address.specs.Address.{is_address, bytes_of};
 ghost use Rattle.address_ledger.specs.range.Range.{in_limits, judged, counted, counted_in};
 
 use address_slots::SLOT;
-use refusal::{Refusal, Verdict};
+use refusal::Refusal;
 use short_address::{bytes_of, is_address};
 
 const SIZE_MOST: usize = 4096;
@@ -17,32 +17,20 @@ const END: usize = 65536;
 pub(crate) fn in_limits(first: usize, size: usize) -> bool
     ensures { result ≡ in_limits first size }
 {
-    if size == 0 {
-        return false;
-    }
-    if SIZE_MOST < size {
-        return false;
-    }
-    if END <= first {
-        return false;
-    }
-    if END < first + size {
-        return false;
-    }
-    true
+    0 < size && size <= SIZE_MOST && first < END && first + size <= END
 }
 
 // Whether range and memory can be a ledger: RANGE comes first, then ROOM.
-pub fn judge(first: usize, size: usize, len: usize) -> Verdict
+pub fn judge(first: usize, size: usize, len: usize) -> Result<(), Refusal>
     ensures { result ≡ judged first size len }
 {
-    if in_limits(first, size) {
-        if len < SLOT * size {
-            return Verdict::Refused(Refusal::Room);
-        }
-        return Verdict::Accepted;
+    if !in_limits(first, size) {
+        return Err(Refusal::Range);
     }
-    Verdict::Refused(Refusal::Range)
+    if len < SLOT * size {
+        return Err(Refusal::Room);
+    }
+    Ok(())
 }
 
 // Whether the number is that of an address.
@@ -60,14 +48,12 @@ fn count_down(first: usize, size: usize) -> usize
     ensures { result ≡ counted first size }
 {
     short_address::laws();
-    let mut n = size;
-    while 0 < n {
-        if is_counted(first + (n - 1)) {
-            return n;
+    for before in (0..size).rev() {
+        if is_counted(first + before) {
+            return before + 1;
         }
-        n -= 1;
     }
-    n
+    0
 }
 
 // How many of the range's addresses count; none of a range outside its limits.

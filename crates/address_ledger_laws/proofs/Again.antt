@@ -1,5 +1,6 @@
 -- A freed address is granted again: giving back marks its group, whatever the summary said before, so a board that holds none is led to a
 -- free place; and where every lower address is held, the lowest free place is in that group, and it is the freed one.
+use Rattle.std.specs.Prelude.{Ok, Err}
 use Prim.Native.Nat.{ℕ, ◌+◌, ◌-◌, ◌*◌, ◌/◌, ◌≤◌, ◌<◌}
 use mathlib.Core.Path.{◌≡◌, refl, sym, ◌∙◌}
 use mathlib.Core.Bool.{Bool, true, false}
@@ -11,11 +12,9 @@ use lib.Dec.{ltb}
 use lib.ListN.{drop}
 use Rattle.address_slots.specs.SlotLemmas.{length-slots}
 use Rattle.refusal.specs.declared.Refusal.{Refusal}
-use Rattle.refusal.specs.declared.Verdict.TheVariants.{Accepted}
 use Rattle.address_slots.specs.Slot.{lowest, has, held_by, is_free, slot_found}
 use Rattle.address_slots.specs.Marks.{marked, group_at, free_by, slot_found_by}
 use Rattle.address_ledger.specs.Ledger.{counted_of, places_of, judged_of, granting, granted, giving_back, given_back}
-use Rattle.address_ledger.specs.declared.answer.AddressAnswer.TheVariants.{Address, Refused}
 use Rattle.address_ledger.specs.declared.ledger.Ledger.{Ledger}
 use Rattle.address_slots.specs.declared.slot.SlotFound.{SlotFound}
 use Rattle.address_slots.specs.declared.slot.SlotFound.TheVariants.{Held, Free, Nothing}
@@ -37,8 +36,8 @@ record Freed (l : Ledger) (m : List ℕ) (a : ℕ) : Type 0 where
   vacant : has is_free (group_at ((a - l.first) / 64) (places_of l m)) ≡ true
   mark : marked ((a - l.first) / 64) l.summary ≡ true
 
-module _ (l : Ledger) (m b : List ℕ) (f : Accepted ≡ judged_of l m) (a : ℕ) where
-  freed-by : (x : SlotFound) → x ≡ slot_found b (places_of l m) → (giving_back (counted_of l) l m x).answer ≡ Address a
+module _ (l : Ledger) (m b : List ℕ) (f : Ok tt ≡ judged_of l m) (a : ℕ) where
+  freed-by : (x : SlotFound) → x ≡ slot_found b (places_of l m) → (giving_back (counted_of l) l m x).answer ≡ Ok a
       → Freed (giving_back (counted_of l) l m x).ledger (giving_back (counted_of l) l m x).memory a
   unfolding giving_back
   freed-by (Held k) x e =
@@ -60,31 +59,31 @@ module _ (l : Ledger) (m b : List ℕ) (f : Accepted ≡ judged_of l m) (a : ℕ
   freed-by (Free k) x e = let z : ◌≡◌ {A = ℕ} 0 1 = cc in absurd (omega arith)
   freed-by Nothing x e = let z : ◌≡◌ {A = ℕ} 0 1 = cc in absurd (omega arith)
 
-  freed-in : (given_back l m b).answer ≡ Address a → Freed (given_back l m b).ledger (given_back l m b).memory a
+  freed-in : (given_back l m b).answer ≡ Ok a → Freed (given_back l m b).ledger (given_back l m b).memory a
   freed-in e =
       let d = back-accepted l m b f (counted_of l) refl _ refl in
       rw (← d) (freed-by _ refl (rw (← d) at e))
 
 -- a board that holds none is granted what the summary leads to
-module _ (l : Ledger) (m c : List ℕ) (f : Accepted ≡ judged_of l m) (y : has (held_by c) (places_of l m) ≡ false) where
+module _ (l : Ledger) (m c : List ℕ) (f : Ok tt ≡ judged_of l m) (y : has (held_by c) (places_of l m) ≡ false) where
   led : granted l m c ≡ granting (counted_of l) l m c (free_by 64 l.summary 0 (places_of l m))
   unfolding slot_found_by
   led = sym (grant-accepted l m c f (counted_of l) refl _ (rw y))
 
-  refused-by : (r : Refusal) (x : SlotFound) → (granting (counted_of l) l m c x).answer ≡ Refused r → x ≡ Nothing
+  refused-by : (r : Refusal) (x : SlotFound) → (granting (counted_of l) l m c x).answer ≡ Err r → x ≡ Nothing
   unfolding granting
   refused-by r (Held k) e = let z : ◌≡◌ {A = ℕ} 0 1 = cc in absurd (omega arith)
   refused-by r (Free k) e = let z : ◌≡◌ {A = ℕ} 0 1 = cc in absurd (omega arith)
   refused-by r Nothing e = refl
 
   module _ (a : ℕ) (d : Freed l m a) where
-    found : (r : Refusal) → (granted l m c).answer ≡ Refused r → ⊥
+    found : (r : Refusal) → (granted l m c).answer ≡ Err r → ⊥
     found r e =
         let inside : (a - l.first) / 64 < 64 = omega (arith, d.below, (in_use l m f).size) in
         some-marked 64 ((a - l.first) / 64) l.summary 0 (places_of l m) inside d.mark d.vacant
         (refused-by r (free_by 64 l.summary 0 (places_of l m)) (rw led at e))
 
-    found-lowest : l.first + lowest is_free (places_of l m) ≡ a → (granted l m c).answer ≡ Address a
+    found-lowest : l.first + lowest is_free (places_of l m) ≡ a → (granted l m c).answer ≡ Ok a
     unfolding granting
     found-lowest e =
         let p = length-slots (counted_of l) m in
@@ -95,7 +94,7 @@ module _ (l : Ledger) (m c : List ℕ) (f : Accepted ≡ judged_of l m) (y : has
 
 module _ (first size : ℕ) (s : Moment) (g : Agrees first size s) (c : List ℕ) (y : listed c s.holding ≡ false) (a : ℕ)
     (d : Freed s.ledger s.memory a) where
-  some : (r : Refusal) → (granted s.ledger s.memory c).answer ≡ Refused r → ⊥
+  some : (r : Refusal) → (granted s.ledger s.memory c).answer ≡ Err r → ⊥
   some r e = found s.ledger s.memory c (own_range first size s g).accepted (told first size s g c ∙ y) a d r e
 
   same_by : ((x : ℕ) → s.ledger.first ≤ x → x < a → taken x s.holding ≡ true) → (v : Bool)
@@ -116,13 +115,13 @@ module _ (first size : ℕ) (s : Moment) (g : Agrees first size s) (c : List ℕ
   same_by h false e =
       omega (arith, d.above, d.lower, ltb-false (lowest is_free (places_of s.ledger s.memory)) (a - s.ledger.first) e)
 
-  again : ((x : ℕ) → first ≤ x → x < a → taken x s.holding ≡ true) → (granted s.ledger s.memory c).answer ≡ Address a
+  again : ((x : ℕ) → first ≤ x → x < a → taken x s.holding ≡ true) → (granted s.ledger s.memory c).answer ≡ Ok a
   again h =
       found-lowest s.ledger s.memory c (own_range first size s g).accepted (told first size s g c ∙ y) a d
       (same_by (rw g.starts h) _ refl)
 
 freed-step : (first size : ℕ) (s : Moment) (b : List ℕ) (a : ℕ) → Agrees first size s
-    → (given_back s.ledger s.memory b).answer ≡ Address a
+    → (given_back s.ledger s.memory b).answer ≡ Ok a
     → Freed (step first size s (gives b)).ledger (step first size s (gives b)).memory a
 unfolding step
 freed-step first size s b a g e = freed-in s.ledger s.memory b (own_range first size s g).accepted a e

@@ -1,4 +1,5 @@
 -- The bytes of any memory, read as places: what stands at place k in bytes is what the list of places has there.
+use Rattle.std.specs.Prelude.{Ok, Err}
 use Prim.Native.Nat.{ℕ, zero, suc, ◌+◌, ◌*◌, ◌≤◌, ◌<◌}
 use mathlib.Core.Path.{◌≡◌, refl, sym, ap, ◌∙◌}
 use mathlib.Core.Bool.{Bool, true, false}
@@ -11,11 +12,9 @@ use lib.Seq.{drop-drop}
 use Rattle.address_slots.specs.SlotLemmas.{length-slots}
 use Rattle.lemmas.specs.logic.Tests.{both_true}
 use Rattle.refusal.specs.declared.Refusal.TheVariants.{Unknown}
-use Rattle.refusal.specs.declared.Verdict.TheVariants.{Accepted}
 use Rattle.address_slots.specs.Slot.{Slot, slot_at, slots, same, lowest, has, held_by, is_free, slot_found}
 use Rattle.address_ledger.specs.range.Range.{judged, counted}
 use Rattle.address_ledger.specs.Ledger.{outcome, granting, giving_back, given_back}
-use Rattle.address_ledger.specs.declared.answer.AddressAnswer.TheVariants.{Refused}
 use Rattle.address_ledger.specs.declared.ledger.Ledger.{Ledger}
 use Rattle.address_slots.specs.declared.slot.SlotFound.{SlotFound}
 use Rattle.address_slots.specs.declared.slot.SlotFound.TheVariants.{Held, Free, Nothing}
@@ -133,9 +132,9 @@ module _ (m b : List ℕ) (n : ℕ) (l : length b ≡ 8) (r : 9 * n ≤ length m
   unfolding slot_found has
   found_nothing o h = rw (none-held o, none_free h, length-slots n m, le-ltb n n (omega arith))
 
-unknown-by : (l : Ledger) (m b : List ℕ) → Accepted ≡ judged l.first l.size (length m) → (n : ℕ) → n ≡ counted l.first l.size
+unknown-by : (l : Ledger) (m b : List ℕ) → Ok tt ≡ judged l.first l.size (length m) → (n : ℕ) → n ≡ counted l.first l.size
     → length b ≡ 8 → 9 * n ≤ length m → NoneAt (HeldAt m b) n → (s : SlotFound) → s ≡ slot_found b (slots n m)
-    → given_back l m b ≡ outcome (Refused Unknown) l m
+    → given_back l m b ≡ outcome (Err Unknown) l m
 unfolding giving_back
 unknown-by l m b f n q e r o (Held k) s =
     let i = held-is b (slots n m) k s in

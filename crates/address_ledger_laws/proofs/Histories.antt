@@ -1,5 +1,7 @@
 -- The laws over histories: at every moment the holdings by the history are those that the places show. No proof here looks at the count or
 -- the summary that a call is handed, beyond where the summary leads: to a free place.
+use Rattle.std.specs.Prelude.{Result, Ok, Err}
+use Rattle.refusal.specs.declared.Refusal.{Refusal}
 use Prim.Native.Nat.{ℕ, zero, suc, ◌+◌, ◌*◌, ◌≤◌, ◌<◌}
 use mathlib.Core.Path.{◌≡◌, refl, sym, ap, subst, ◌∙◌}
 use mathlib.Core.Bool.{true, false}
@@ -12,16 +14,12 @@ use lib.Seq.{get_or-drop}
 use Rattle.address_slots.specs.SlotLemmas.{length-slots}
 use Rattle.lemmas.specs.logic.Tests.{both_true}
 use Rattle.refusal.specs.declared.Refusal.TheVariants.{Unknown}
-use Rattle.refusal.specs.declared.Verdict.TheVariants.{Accepted}
 use Rattle.address_slots.specs.Slot.{Slot, slot_at, slots, lowest, has, held_by, count_free, slot_found, hold, freed}
 use Rattle.address_slots.specs.Marks.{summary_of, slot_found_by}
 use Rattle.address_ledger.specs.range.Range.{judged, counted}
 use Rattle.address_ledger.specs.Ledger.{Outcome, outcome, counted_of, places_of, judged_of, with_summary, fewer, more, opened}
 use Rattle.address_ledger.specs.Ledger.{granting, granted_by, granted, giving_back, given_back_by, given_back, free_count}
-use Rattle.address_ledger.specs.declared.answer.AddressAnswer.{AddressAnswer}
-use Rattle.address_ledger.specs.declared.answer.AddressAnswer.TheVariants.{Address, Refused}
 use Rattle.address_ledger.specs.declared.ledger.Ledger.{Ledger}
-use Rattle.address_ledger.specs.declared.answer.FreeAnswer.TheVariants as free
 use Rattle.address_slots.specs.declared.slot.SlotFound.{SlotFound}
 use Rattle.address_slots.specs.declared.slot.SlotFound.TheVariants.{Held, Free, Nothing}
 use Rattle.address_ledger.proofs.range.Judged.{usable, within-limits}
@@ -42,7 +40,7 @@ use Rattle.address_ledger_laws.proofs.Validity.{stands}
 abbrev pub right_ledger : ℕ → ℕ → List ℕ → Ledger
 right_ledger first size m = with_summary first size (summary_of (slots (counted first size) m))
 
-pub opened-is : (first size : ℕ) (m : List ℕ) → Accepted ≡ judged first size (length m)
+pub opened-is : (first size : ℕ) (m : List ℕ) → Ok tt ≡ judged first size (length m)
     → (opened first size m).ledger ≡ right_ledger first size m
 opened-is first size m f = rw (← open-accepted first size m f (counted first size) refl (summary_of (slots (counted first size) m)) refl)
 
@@ -52,18 +50,18 @@ unfolding has
 lists first b ps hs t = rw t (listed-held first b ps)
 
 -- what a call leaves: memory as long as before, the range, and the holdings that the places show
-record Told (l : Ledger) (m : List ℕ) (next : AddressAnswer → List Holding) (o : Outcome) : Type 0 where
+record Told (l : Ledger) (m : List ℕ) (next : Result ℕ Refusal → List Holding) (o : Outcome) : Type 0 where
   long : length o.memory ≡ length m
   starts : o.ledger.first ≡ l.first
   sized : o.ledger.size ≡ l.size
   tells : next o.answer ≡ held_from l.first (places_of l o.memory)
 
-module _ (l : Ledger) (b m : List ℕ) (hs : List Holding) (f : Accepted ≡ judged_of l m) (t : hs ≡ held_from l.first (places_of l m)) where
+module _ (l : Ledger) (b m : List ℕ) (hs : List Holding) (f : Ok tt ≡ judged_of l m) (t : hs ≡ held_from l.first (places_of l m)) where
   room : 9 * counted_of l ≤ length m
   room = (usable l.first l.size (length m) f (counted_of l) refl).room
 
   ask-held : (k : ℕ) → Held k ≡ slot_found_by l.summary b (places_of l m)
-      → Told l m (λ (r : AddressAnswer). after_ask b r hs) (outcome (Address (l.first + k)) l m)
+      → Told l m (λ (r : Result ℕ Refusal). after_ask b r hs) (outcome (Ok (l.first + k)) l m)
   unfolding after_ask has
   ask-held k s =
       let i = held-told l.summary b (places_of l m) k s in
@@ -72,8 +70,8 @@ module _ (l : Ledger) (b m : List ℕ) (hs : List Holding) (f : Accepted ≡ jud
       record { long = refl; starts = refl; sized = refl; tells = rw (lists l.first b (places_of l m) hs t, w) t }
 
   ask-free : length b ≡ 8 → (k : ℕ) → Free k ≡ slot_found_by l.summary b (places_of l m)
-      → Told l m (λ (r : AddressAnswer). after_ask b r hs)
-      (outcome (Address (l.first + k)) (fewer (counted_of l) k (hold m k b) l) (hold m k b))
+      → Told l m (λ (r : Result ℕ Refusal). after_ask b r hs)
+      (outcome (Ok (l.first + k)) (fewer (counted_of l) k (hold m k b) l) (hold m k b))
   unfolding after_ask
   ask-free e k s =
       let n = counted_of l in
@@ -89,18 +87,18 @@ module _ (l : Ledger) (b m : List ℕ) (hs : List Holding) (f : Accepted ≡ jud
       }
 
   ask-by : length b ≡ 8 → (s : SlotFound) → s ≡ slot_found_by l.summary b (places_of l m)
-      → Told l m (λ (r : AddressAnswer). after_ask b r hs) (granting (counted_of l) l m b s)
+      → Told l m (λ (r : Result ℕ Refusal). after_ask b r hs) (granting (counted_of l) l m b s)
   unfolding granting after_ask
   ask-by e (Held k) s = ask-held k s
   ask-by e (Free k) s = ask-free e k s
   ask-by e Nothing s = record { long = refl; starts = refl; sized = refl; tells = t }
 
-  asked : length b ≡ 8 → Told l m (λ (r : AddressAnswer). after_ask b r hs) (granted l m b)
+  asked : length b ≡ 8 → Told l m (λ (r : Result ℕ Refusal). after_ask b r hs) (granted l m b)
   asked e = rw (← grant-accepted l m b f (counted_of l) refl _ refl) (ask-by e _ refl)
 
   give-held : (k : ℕ) → Held k ≡ slot_found b (places_of l m)
-      → Told l m (λ (r : AddressAnswer). after_give b r hs)
-      (outcome (Address (l.first + k)) (more (counted_of l) k (freed m k) l) (freed m k))
+      → Told l m (λ (r : Result ℕ Refusal). after_give b r hs)
+      (outcome (Ok (l.first + k)) (more (counted_of l) k (freed m k) l) (freed m k))
   unfolding after_give
   give-held k s =
       let i = held-is b (places_of l m) k s in
@@ -116,18 +114,18 @@ module _ (l : Ledger) (b m : List ℕ) (hs : List Holding) (f : Accepted ≡ jud
       }
 
   give-by : (s : SlotFound) → s ≡ slot_found b (places_of l m)
-      → Told l m (λ (r : AddressAnswer). after_give b r hs) (giving_back (counted_of l) l m s)
+      → Told l m (λ (r : Result ℕ Refusal). after_give b r hs) (giving_back (counted_of l) l m s)
   unfolding giving_back after_give
   give-by (Held k) s = give-held k s
   give-by (Free k) s = record { long = refl; starts = refl; sized = refl; tells = t }
   give-by Nothing s = record { long = refl; starts = refl; sized = refl; tells = t }
 
-  gave : Told l m (λ (r : AddressAnswer). after_give b r hs) (given_back l m b)
+  gave : Told l m (λ (r : Result ℕ Refusal). after_give b r hs) (given_back l m b)
   gave = rw (← back-accepted l m b f (counted_of l) refl _ refl) (give-by _ refl)
 
 -- a moment at which the history and the places tell the same; the ledger has the range, with any count and any summary
 pub record Agrees (first size : ℕ) (s : Moment) : Type 0 where
-  pub accepted : Accepted ≡ judged first size (length s.memory)
+  pub accepted : Ok tt ≡ judged first size (length s.memory)
   pub starts : s.ledger.first ≡ first
   pub sized : s.ledger.size ≡ size
   pub tells : s.holding ≡ held_from first (slots (counted first size) s.memory)
@@ -169,7 +167,7 @@ gives-agrees first size s b a =
     }
 
 -- opening keeps to the range
-opens-agrees : (first size : ℕ) (m : List ℕ) (hs : List Holding) → Accepted ≡ judged first size (length m)
+opens-agrees : (first size : ℕ) (m : List ℕ) (hs : List Holding) → Ok tt ≡ judged first size (length m)
     → hs ≡ held_from first (slots (counted first size) m)
     → Agrees first size (record { ledger = (opened first size m).ledger; memory = m; holding = hs })
 opens-agrees first size m hs f t =
@@ -241,11 +239,11 @@ module _ (first size : ℕ) (s : Moment) (a : Agrees first size s) where
       (held-and-free first (slots (counted first size) s.memory) ∙ length-slots (counted first size) s.memory)
 
   answered : s.ledger.free ≡ count_free (slots (counted first size) s.memory)
-      → free_count s.ledger ≡ free.Count (count_free (slots (counted first size) s.memory))
+      → free_count s.ledger ≡ Ok (count_free (slots (counted first size) s.memory))
   answered e =
       let o = own_range first size s a in
       sym (free-within s.ledger (sym (within-limits s.ledger.first s.ledger.size (length s.memory) o.accepted)))
-      ∙ ap free.Count e
+      ∙ ap Ok e
 
   right : RightCount s.ledger s.memory → s.ledger.free ≡ count_free (slots (counted first size) s.memory)
   right c = rw (a.starts, a.sized) at c
@@ -270,21 +268,21 @@ no-two-boards =
     }
 
 -- ---- the board's own address, whatever the summary
-module _ (l : Ledger) (b m : List ℕ) (hs : List Holding) (f : Accepted ≡ judged_of l m) (t : hs ≡ held_from l.first (places_of l m)) where
+module _ (l : Ledger) (b m : List ℕ) (hs : List Holding) (f : Ok tt ≡ judged_of l m) (t : hs ≡ held_from l.first (places_of l m)) where
   own-place : has (held_by b) (places_of l m) ≡ true → l.first + lowest (held_by b) (places_of l m) ≡ address_of b hs
   unfolding has
   own-place h = rw t (sym (address-held l.first b (places_of l m) (ltb-true _ _ h)))
 
-  same-told : has (held_by b) (places_of l m) ≡ true → granted l m b ≡ outcome (Address (address_of b hs)) l m
+  same-told : has (held_by b) (places_of l m) ≡ true → granted l m b ≡ outcome (Ok (address_of b hs)) l m
   unfolding granted granted_by granting slot_found_by
   same-told h = rw (← f, h, own-place h)
 
-  own-told : has (held_by b) (places_of l m) ≡ true → (given_back l m b).answer ≡ Address (address_of b hs)
+  own-told : has (held_by b) (places_of l m) ≡ true → (given_back l m b).answer ≡ Ok (address_of b hs)
   unfolding given_back given_back_by giving_back slot_found
   own-told h = rw (← f, h, own-place h)
 
   none-by : has (held_by b) (places_of l m) ≡ false → (x : SlotFound) → x ≡ slot_found b (places_of l m)
-      → giving_back (counted_of l) l m x ≡ outcome (Refused Unknown) l m
+      → giving_back (counted_of l) l m x ≡ outcome (Err Unknown) l m
   unfolding giving_back has
   none-by h (Held k) x =
       let i = held-is b (places_of l m) k x in
@@ -292,7 +290,7 @@ module _ (l : Ledger) (b m : List ℕ) (hs : List Holding) (f : Accepted ≡ jud
   none-by h (Free k) x = refl
   none-by h Nothing x = refl
 
-  none_told : has (held_by b) (places_of l m) ≡ false → given_back l m b ≡ outcome (Refused Unknown) l m
+  none_told : has (held_by b) (places_of l m) ≡ false → given_back l m b ≡ outcome (Err Unknown) l m
   none_told h = rw (← back-accepted l m b f (counted_of l) refl _ refl) (none-by h _ refl)
 
 module _ (first size : ℕ) (s : Moment) (a : Agrees first size s) (b : List ℕ) where
@@ -302,17 +300,17 @@ module _ (first size : ℕ) (s : Moment) (a : Agrees first size s) (b : List ℕ
       sym (lists s.ledger.first b (places_of s.ledger s.memory) s.holding o.tells)
 
   same : listed b s.holding ≡ true
-      → granted s.ledger s.memory b ≡ outcome (Address (address_of b s.holding)) s.ledger s.memory
+      → granted s.ledger s.memory b ≡ outcome (Ok (address_of b s.holding)) s.ledger s.memory
   same y =
       let o = own_range first size s a in
       same-told s.ledger b s.memory s.holding o.accepted o.tells (told ∙ y)
 
-  own : listed b s.holding ≡ true → (given_back s.ledger s.memory b).answer ≡ Address (address_of b s.holding)
+  own : listed b s.holding ≡ true → (given_back s.ledger s.memory b).answer ≡ Ok (address_of b s.holding)
   own y =
       let o = own_range first size s a in
       own-told s.ledger b s.memory s.holding o.accepted o.tells (told ∙ y)
 
-  none : listed b s.holding ≡ false → given_back s.ledger s.memory b ≡ outcome (Refused Unknown) s.ledger s.memory
+  none : listed b s.holding ≡ false → given_back s.ledger s.memory b ≡ outcome (Err Unknown) s.ledger s.memory
   none y =
       let o = own_range first size s a in
       none_told s.ledger b s.memory s.holding o.accepted o.tells (told ∙ y)

@@ -1,4 +1,5 @@
 -- The count moves with each place that is written, and only then; what is answered never looks at it.
+use Rattle.std.specs.Prelude.{Ok, Err}
 use Prim.Native.Nat.{ℕ, ◌-◌, ◌*◌, ◌≤◌, ◌<◌}
 use mathlib.Core.Path.{◌≡◌, refl}
 use mathlib.Core.Bool.{true, false}
@@ -7,13 +8,11 @@ use native.Mathlib.Omega.{arith}
 use borrow.Author.Tests.{ltb-false}
 use lib.ListN.{length, drop}
 use Rattle.address_slots.specs.SlotLemmas.{length-slots}
-use Rattle.refusal.specs.declared.Verdict.{Verdict}
-use Rattle.refusal.specs.declared.Verdict.TheVariants as verdict
+use Rattle.refusal.specs.Verdict.{Verdict}
 use Rattle.address_slots.specs.Slot.{slots, held_by, lowest, has, count_free, slot_found}
 use Rattle.address_ledger.specs.range.Range.{judged, counted}
 use Rattle.address_ledger.specs.Ledger.{counted_of, places_of, judged_of, cut, opened_by, opened, granting}
 use Rattle.address_ledger.specs.Ledger.{granted_by, granted, giving_back, given_back_by, given_back}
-use Rattle.address_ledger.specs.declared.answer.AddressAnswer.TheVariants.{Address}
 use Rattle.address_ledger.specs.declared.ledger.Ledger.{Ledger}
 use Rattle.address_slots.specs.declared.slot.SlotFound.{SlotFound}
 use Rattle.address_slots.specs.declared.slot.SlotFound.TheVariants.{Held, Free, Nothing}
@@ -26,7 +25,7 @@ use Rattle.address_ledger_laws.proofs.Bytes.{places-hold, places-freed, cleared,
 use Rattle.address_ledger_laws.proofs.Counting.{count_less, count-more}
 
 -- ---- right stays right
-module _ (l : Ledger) (m b : List ℕ) (f : verdict.Accepted ≡ judged_of l m) (c : RightCount l m) where
+module _ (l : Ledger) (m b : List ℕ) (f : Ok tt ≡ judged_of l m) (c : RightCount l m) where
   room : 9 * counted_of l ≤ length m
   room = (usable l.first l.size (length m) f (counted_of l) refl).room
 
@@ -60,18 +59,18 @@ module _ (l : Ledger) (m b : List ℕ) (f : verdict.Accepted ≡ judged_of l m) 
 module _ (l : Ledger) (m b : List ℕ) (c : RightCount l m) where
   granted-right : length b ≡ 8 → (v : Verdict) → v ≡ judged_of l m → RightCount (granted_by v l m b).ledger (granted_by v l m b).memory
   unfolding granted_by
-  granted-right e verdict.Accepted f = grant-right l m b f c e (slot_found_by l.summary b (places_of l m)) refl
-  granted-right e (verdict.Refused r) f = c
+  granted-right e (Ok tt) f = grant-right l m b f c e (slot_found_by l.summary b (places_of l m)) refl
+  granted-right e (Err r) f = c
 
   given-right : (v : Verdict) → v ≡ judged_of l m → RightCount (given_back_by v l m b).ledger (given_back_by v l m b).memory
   unfolding given_back_by
-  given-right verdict.Accepted f = back-right l m b f c (slot_found b (places_of l m)) refl
-  given-right (verdict.Refused r) f = c
+  given-right (Ok tt) f = back-right l m b f c (slot_found b (places_of l m)) refl
+  given-right (Err r) f = c
 
 opened-right : (first size : ℕ) (m : List ℕ) (v : Verdict) → RightCount (opened_by v first size m).ledger m
 unfolding opened_by counted slots count_free
-opened-right first size m verdict.Accepted = refl
-opened-right first size m (verdict.Refused r) = refl
+opened-right first size m (Ok tt) = refl
+opened-right first size m (Err r) = refl
 
 pub right-stays : RightStays
 unfolding opened granted given_back
@@ -99,13 +98,13 @@ module _ (l : Ledger) (x y n : ℕ) (m b : List ℕ) where
 module _ (l : Ledger) (x y : ℕ) (m b : List ℕ) where
   granted-same : (v : Verdict) → SameBut (granted_by v (with_free l x) m b) (granted_by v (with_free l y) m b)
   unfolding granted_by
-  granted-same verdict.Accepted = grant-same l x y (counted_of l) m b (slot_found_by l.summary b (places_of l m))
-  granted-same (verdict.Refused r) = record { answer = refl; memory = refl; first = refl; size = refl; summary = refl }
+  granted-same (Ok tt) = grant-same l x y (counted_of l) m b (slot_found_by l.summary b (places_of l m))
+  granted-same (Err r) = record { answer = refl; memory = refl; first = refl; size = refl; summary = refl }
 
   given-same : (v : Verdict) → SameBut (given_back_by v (with_free l x) m b) (given_back_by v (with_free l y) m b)
   unfolding given_back_by
-  given-same verdict.Accepted = back-same l x y (counted_of l) m b (slot_found b (places_of l m))
-  given-same (verdict.Refused r) = record { answer = refl; memory = refl; first = refl; size = refl; summary = refl }
+  given-same (Ok tt) = back-same l x y (counted_of l) m b (slot_found b (places_of l m))
+  given-same (Err r) = record { answer = refl; memory = refl; first = refl; size = refl; summary = refl }
 
 pub any-count : AnyCount
 unfolding granted given_back
@@ -118,12 +117,12 @@ any-count =
 -- ---- where it moves
 again_by : (l : Ledger) (m b : List ℕ) (v : Verdict) → has (held_by b) (places_of l m) ≡ true → (granted_by v l m b).ledger ≡ l
 unfolding granted_by granting slot_found_by
-again_by l m b verdict.Accepted h = rw h
-again_by l m b (verdict.Refused r) h = refl
+again_by l m b (Ok tt) h = rw h
+again_by l m b (Err r) h = refl
 
 module _ (l : Ledger) (m b : List ℕ) (a : ℕ) where
   new-found : (s : SlotFound) → s ≡ slot_found_by l.summary b (places_of l m) → has (held_by b) (places_of l m) ≡ false
-      → (granting (counted_of l) l m b s).answer ≡ Address a
+      → (granting (counted_of l) l m b s).answer ≡ Ok a
       → (granting (counted_of l) l m b s).ledger.free ≡ cut (counted_of l) (l.free - 1)
   unfolding granting has
   new-found (Held k) s h e =
@@ -132,11 +131,11 @@ module _ (l : Ledger) (m b : List ℕ) (a : ℕ) where
   new-found (Free k) s h e = refl
   new-found Nothing s h e = let z : ◌≡◌ {A = ℕ} 0 1 = cc in absurd (omega arith)
 
-  new_by : (v : Verdict) → has (held_by b) (places_of l m) ≡ false → (granted_by v l m b).answer ≡ Address a
+  new_by : (v : Verdict) → has (held_by b) (places_of l m) ≡ false → (granted_by v l m b).answer ≡ Ok a
       → (granted_by v l m b).ledger.free ≡ cut (counted_of l) (l.free - 1)
   unfolding granted_by
-  new_by verdict.Accepted h e = new-found (slot_found_by l.summary b (places_of l m)) refl h e
-  new_by (verdict.Refused r) h e = let z : ◌≡◌ {A = ℕ} 0 1 = cc in absurd (omega arith)
+  new_by (Ok tt) h e = new-found (slot_found_by l.summary b (places_of l m)) refl h e
+  new_by (Err r) h e = let z : ◌≡◌ {A = ℕ} 0 1 = cc in absurd (omega arith)
 
 pub moves : Moves
 unfolding granted given_back given_back_by giving_back slot_found

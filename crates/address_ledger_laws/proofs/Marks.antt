@@ -1,4 +1,6 @@
 -- The marks of a ledger from call to call: by the bits for its own group and the others, and by where the marks lead.
+use Rattle.std.specs.Prelude.{Result, Ok, Err}
+use Rattle.refusal.specs.declared.Refusal.{Refusal}
 use Prim.Native.Nat.{ℕ, ◌+◌, ◌*◌, ◌/◌, ◌<◌}
 use mathlib.Core.Path.{◌≡◌, refl, sym, ap, ◌∙◌}
 use mathlib.Core.Bool.{true, false}
@@ -8,8 +10,7 @@ use native.Mathlib.Nat.{zero-add}
 use borrow.Author.Tests.{lt-ltb, ltb-false}
 use lib.ListN.{length, drop}
 use Rattle.address_slots.specs.SlotLemmas.{length-slots}
-use Rattle.refusal.specs.declared.Verdict.{Verdict}
-use Rattle.refusal.specs.declared.Verdict.TheVariants as verdict
+use Rattle.refusal.specs.Verdict.{Verdict}
 use Rattle.address_slots.specs.Slot.{slots, held_by, is_free, lowest, has, slot_found, hold, freed}
 use Rattle.address_slots.specs.Marks.{marked, group_at, marks_of, refreshed, slot_found_by}
 use Rattle.address_slots.specs.declared.slot.SlotFound.{SlotFound}
@@ -20,7 +21,6 @@ use Rattle.address_ledger.specs.range.Range.{judged, counted, Usable}
 use Rattle.address_ledger.proofs.range.Judged.{usable}
 use Rattle.address_ledger.specs.Ledger.{Outcome, counted_of, places_of, judged_of, opened_by, opened}
 use Rattle.address_ledger.specs.Ledger.{granting, granted_by, granted, giving_back, given_back_by, given_back}
-use Rattle.address_ledger.specs.declared.answer.AddressAnswer.TheVariants.{Address}
 use Rattle.address_ledger.specs.declared.ledger.Ledger.{Ledger}
 use Rattle.address_ledger.proofs.Calls.{grant-accepted}
 use Rattle.address_ledger_laws.specs.Marked.{RightMarks, MarksStay, walked_by, AsWalked, MarkedAnew, AnyMarks}
@@ -28,7 +28,7 @@ use Rattle.address_ledger_laws.proofs.Bytes.{places-hold, places-freed, cleared,
 use Rattle.address_ledger_laws.proofs.Marking.{own-mark, other-mark, marks-say, refreshed-right}
 use Rattle.address_ledger_laws.proofs.Leading.{as-walked, first-marked, none-marked, group-has, free-set}
 
-module _ (l : Ledger) (m : List ℕ) (f : verdict.Accepted ≡ judged_of l m) where
+module _ (l : Ledger) (m : List ℕ) (f : Ok tt ≡ judged_of l m) where
   pub in_use : Usable l.first (length m) (counted_of l)
   in_use = usable l.first l.size (length m) f (counted_of l) refl
 
@@ -67,23 +67,23 @@ module _ (l : Ledger) (m : List ℕ) (f : verdict.Accepted ≡ judged_of l m) wh
 module _ (l : Ledger) (m b : List ℕ) (w : RightMarks l m) where
   granted-right : length b ≡ 8 → (v : Verdict) → v ≡ judged_of l m → RightMarks (granted_by v l m b).ledger (granted_by v l m b).memory
   unfolding granted_by
-  granted-right e verdict.Accepted f = grant-right l m f b w e (slot_found_by l.summary b (places_of l m)) refl
-  granted-right e (verdict.Refused r) f = w
+  granted-right e (Ok tt) f = grant-right l m f b w e (slot_found_by l.summary b (places_of l m)) refl
+  granted-right e (Err r) f = w
 
   given-right : (v : Verdict) → v ≡ judged_of l m → RightMarks (given_back_by v l m b).ledger (given_back_by v l m b).memory
   unfolding given_back_by
-  given-right verdict.Accepted f = back-right l m f b w (slot_found b (places_of l m)) refl
-  given-right (verdict.Refused r) f = w
+  given-right (Ok tt) f = back-right l m f b w (slot_found b (places_of l m)) refl
+  given-right (Err r) f = w
 
   walked_by_lem : (v : Verdict) → v ≡ judged_of l m → granted_by v l m b ≡ walked_by v l m b
   unfolding granted_by walked_by
-  walked_by_lem verdict.Accepted f = ap (λ (s : SlotFound). granting (counted_of l) l m b s) (found_alike l m f b w)
-  walked_by_lem (verdict.Refused r) f = refl
+  walked_by_lem (Ok tt) f = ap (λ (s : SlotFound). granting (counted_of l) l m b s) (found_alike l m f b w)
+  walked_by_lem (Err r) f = refl
 
 opened-right : (first size : ℕ) (m : List ℕ) (v : Verdict) → RightMarks (opened_by v first size m).ledger m
 unfolding opened_by counted slots marks_of has lowest
-opened-right first size m verdict.Accepted = refl
-opened-right first size m (verdict.Refused r) = refl
+opened-right first size m (Ok tt) = refl
+opened-right first size m (Err r) = refl
 
 pub marks_stay : MarksStay
 unfolding opened granted given_back
@@ -111,12 +111,12 @@ written l k m' h o e q =
     }
 
 -- an answered address tells its place
-pub same_place : (l : Ledger) (k j : ℕ) → Address (l.first + j) ≡ Address (l.first + k) → j ≡ k
+pub same_place : (l : Ledger) (k j : ℕ) → ◌≡◌ {A = Result ℕ Refusal} (Ok (l.first + j)) (Ok (l.first + k)) → j ≡ k
 same_place l k j e = let z : l.first + j ≡ l.first + k = cc in omega arith
 
-module _ (l : Ledger) (m b : List ℕ) (k : ℕ) (f : verdict.Accepted ≡ judged_of l m) where
+module _ (l : Ledger) (m b : List ℕ) (k : ℕ) (f : Ok tt ≡ judged_of l m) where
   grant-new : (s : SlotFound) → s ≡ slot_found_by l.summary b (places_of l m) → has (held_by b) (places_of l m) ≡ false
-      → (granting (counted_of l) l m b s).answer ≡ Address (l.first + k) → MarkedAnew l k (granting (counted_of l) l m b s)
+      → (granting (counted_of l) l m b s).answer ≡ Ok (l.first + k) → MarkedAnew l k (granting (counted_of l) l m b s)
   unfolding granting has
   grant-new (Held j) s h e =
       let i = held-told l.summary b (places_of l m) j s in
@@ -128,7 +128,7 @@ module _ (l : Ledger) (m b : List ℕ) (k : ℕ) (f : verdict.Accepted ≡ judge
   grant-new Nothing s h e = let z : ◌≡◌ {A = ℕ} 0 1 = cc in absurd (omega arith)
 
   pub back-new : (s : SlotFound) → s ≡ slot_found b (places_of l m)
-      → (giving_back (counted_of l) l m s).answer ≡ Address (l.first + k) → MarkedAnew l k (giving_back (counted_of l) l m s)
+      → (giving_back (counted_of l) l m s).answer ≡ Ok (l.first + k) → MarkedAnew l k (giving_back (counted_of l) l m s)
   unfolding giving_back
   back-new (Held j) s e =
       let i = held-within b (counted_of l) m j s in
@@ -138,7 +138,7 @@ module _ (l : Ledger) (m b : List ℕ) (k : ℕ) (f : verdict.Accepted ≡ judge
   back-new Nothing s e = let z : ◌≡◌ {A = ℕ} 0 1 = cc in absurd (omega arith)
 
   pub back-marked : (s : SlotFound) → s ≡ slot_found b (places_of l m)
-      → (giving_back (counted_of l) l m s).answer ≡ Address (l.first + k)
+      → (giving_back (counted_of l) l m s).answer ≡ Ok (l.first + k)
       → marked (k / 64) (giving_back (counted_of l) l m s).ledger.summary ≡ true
   unfolding giving_back
   back-marked (Held j) s e =
@@ -155,23 +155,23 @@ module _ (l : Ledger) (m b : List ℕ) (k : ℕ) (f : verdict.Accepted ≡ judge
 
 module _ (l : Ledger) (m b : List ℕ) (k : ℕ) where
   granted-new : (v : Verdict) → v ≡ judged_of l m → has (held_by b) (places_of l m) ≡ false
-      → (granted_by v l m b).answer ≡ Address (l.first + k)
+      → (granted_by v l m b).answer ≡ Ok (l.first + k)
       → MarkedAnew l k (granted_by v l m b)
   unfolding granted_by
-  granted-new verdict.Accepted f h e = grant-new l m b k f (slot_found_by l.summary b (places_of l m)) refl h e
-  granted-new (verdict.Refused r) f h e = let z : ◌≡◌ {A = ℕ} 0 1 = cc in absurd (omega arith)
+  granted-new (Ok tt) f h e = grant-new l m b k f (slot_found_by l.summary b (places_of l m)) refl h e
+  granted-new (Err r) f h e = let z : ◌≡◌ {A = ℕ} 0 1 = cc in absurd (omega arith)
 
-  given-new : (v : Verdict) → v ≡ judged_of l m → (given_back_by v l m b).answer ≡ Address (l.first + k)
+  given-new : (v : Verdict) → v ≡ judged_of l m → (given_back_by v l m b).answer ≡ Ok (l.first + k)
       → MarkedAnew l k (given_back_by v l m b)
   unfolding given_back_by
-  given-new verdict.Accepted f e = back-new l m b k f (slot_found b (places_of l m)) refl e
-  given-new (verdict.Refused r) f e = let z : ◌≡◌ {A = ℕ} 0 1 = cc in absurd (omega arith)
+  given-new (Ok tt) f e = back-new l m b k f (slot_found b (places_of l m)) refl e
+  given-new (Err r) f e = let z : ◌≡◌ {A = ℕ} 0 1 = cc in absurd (omega arith)
 
-  given-marked : (v : Verdict) → v ≡ judged_of l m → (given_back_by v l m b).answer ≡ Address (l.first + k)
+  given-marked : (v : Verdict) → v ≡ judged_of l m → (given_back_by v l m b).answer ≡ Ok (l.first + k)
       → marked (k / 64) (given_back_by v l m b).ledger.summary ≡ true
   unfolding given_back_by
-  given-marked verdict.Accepted f e = back-marked l m b k f (slot_found b (places_of l m)) refl e
-  given-marked (verdict.Refused r) f e = let z : ◌≡◌ {A = ℕ} 0 1 = cc in absurd (omega arith)
+  given-marked (Ok tt) f e = back-marked l m b k f (slot_found b (places_of l m)) refl e
+  given-marked (Err r) f e = let z : ◌≡◌ {A = ℕ} 0 1 = cc in absurd (omega arith)
 
 pub any-marks : AnyMarks
 unfolding granted granted_by granting given_back slot_found_by

@@ -1,4 +1,5 @@
 -- Demand 1: each way out of a call that refuses hands back what came in, and the tests of the definitions are those of the numbers.
+use Rattle.std.specs.Prelude.{Ok, Err}
 use Prim.Native.Nat.{ℕ, zero, suc, ◌+◌, ◌*◌, ◌/◌}
 use mathlib.Core.Path.{◌≡◌, refl}
 use mathlib.Core.Bool.{Bool, true, false, cond, ◌&&◌, ◌||◌}
@@ -8,8 +9,7 @@ use lib.Dec.{leb}
 use lib.ListN.{length, take, drop}
 use Rattle.refusal.specs.Verdict.{verdict_number}
 use Rattle.refusal.specs.declared.Refusal.{Refusal}
-use Rattle.refusal.specs.declared.Verdict.{Verdict}
-use Rattle.refusal.specs.declared.Verdict.TheVariants as verdict
+use Rattle.refusal.specs.Verdict.{Verdict}
 use Rattle.address_slots.specs.Slot.{Slot, held_by, is_free, has, slot_found}
 use Rattle.address_slots.specs.Marks.{marked, free_by, slot_found_by}
 use Rattle.address_ledger.specs.range.Range.{in_limits, judged}
@@ -28,46 +28,46 @@ record Left (l : Ledger) (m : List ℕ) (o : Outcome) : Type 0 where
   ledger : o.ledger ≡ l
   memory : o.memory ≡ m
 
-accepted-not : (r : Refusal) → verdict.Accepted ≡ verdict.Refused r → ⊥
+accepted-not : (r : Refusal) → ◌≡◌ {A = Verdict} (Ok tt) (Err r) → ⊥
 accepted-not r e = let z : ◌≡◌ {A = ℕ} 0 1 = cc in omega arith
 
 module _ (n : ℕ) (l : Ledger) (m b : List ℕ) (r : Refusal) where
-  grant-found : (s : SlotFound) → address_verdict (granting n l m b s).answer ≡ verdict.Refused r → Left l m (granting n l m b s)
+  grant-found : (s : SlotFound) → address_verdict (granting n l m b s).answer ≡ Err r → Left l m (granting n l m b s)
   unfolding granting
   grant-found (Held k) e = absurd (accepted-not r e)
   grant-found (Free k) e = absurd (accepted-not r e)
   grant-found Nothing e = record { value = refl; ledger = refl; memory = refl }
 
-  back_found : (s : SlotFound) → address_verdict (giving_back n l m s).answer ≡ verdict.Refused r → Left l m (giving_back n l m s)
+  back_found : (s : SlotFound) → address_verdict (giving_back n l m s).answer ≡ Err r → Left l m (giving_back n l m s)
   unfolding giving_back
   back_found (Held k) e = absurd (accepted-not r e)
   back_found (Free k) e = record { value = refl; ledger = refl; memory = refl }
   back_found Nothing e = record { value = refl; ledger = refl; memory = refl }
 
 module _ (l : Ledger) (m b : List ℕ) (r : Refusal) where
-  grant-left : (v : Verdict) → address_verdict (granted_by v l m b).answer ≡ verdict.Refused r → Left l m (granted_by v l m b)
+  grant-left : (v : Verdict) → address_verdict (granted_by v l m b).answer ≡ Err r → Left l m (granted_by v l m b)
   unfolding granted_by
-  grant-left verdict.Accepted e = grant-found (counted_of l) l m b r (slot_found_by l.summary b (places_of l m)) e
-  grant-left (verdict.Refused x) e = record { value = refl; ledger = refl; memory = refl }
+  grant-left (Ok tt) e = grant-found (counted_of l) l m b r (slot_found_by l.summary b (places_of l m)) e
+  grant-left (Err x) e = record { value = refl; ledger = refl; memory = refl }
 
-  back-left : (v : Verdict) → address_verdict (given_back_by v l m b).answer ≡ verdict.Refused r → Left l m (given_back_by v l m b)
+  back-left : (v : Verdict) → address_verdict (given_back_by v l m b).answer ≡ Err r → Left l m (given_back_by v l m b)
   unfolding given_back_by
-  back-left verdict.Accepted e = back_found (counted_of l) l m b r (slot_found b (places_of l m)) e
-  back-left (verdict.Refused x) e = record { value = refl; ledger = refl; memory = refl }
+  back-left (Ok tt) e = back_found (counted_of l) l m b r (slot_found b (places_of l m)) e
+  back-left (Err x) e = record { value = refl; ledger = refl; memory = refl }
 
-free-left : (l : Ledger) (r : Refusal) (x : Bool) → in_limits l.first l.size ≡ x → free_verdict (free_count l) ≡ verdict.Refused r
+free-left : (l : Ledger) (r : Refusal) (x : Bool) → in_limits l.first l.size ≡ x → free_verdict (free_count l) ≡ Err r
     → free_value (free_count l) ≡ 0
 unfolding free_count
 free-left l r true q e = absurd (accepted-not r (rw q at e))
 free-left l r false q e = rw q
 
-open-left : (first size : ℕ) (m : List ℕ) (r : Refusal) (v : Verdict) → (opened_by v first size m).verdict ≡ verdict.Refused r
+open-left : (first size : ℕ) (m : List ℕ) (r : Refusal) (v : Verdict) → (opened_by v first size m).verdict ≡ Err r
     → (opened_by v first size m).ledger ≡ empty_ledger
 unfolding opened_by
-open-left first size m r verdict.Accepted e = absurd (accepted-not r e)
-open-left first size m r (verdict.Refused x) e = refl
+open-left first size m r (Ok tt) e = absurd (accepted-not r e)
+open-left first size m r (Err x) e = refl
 
-untouched : (c : LedgerCall) (l : Ledger) (m : List ℕ) (r : Refusal) → (perform c l m).verdict ≡ verdict.Refused r
+untouched : (c : LedgerCall) (l : Ledger) (m : List ℕ) (r : Refusal) → (perform c l m).verdict ≡ Err r
     → Untouched c l m (perform c l m)
 unfolding perform opened granted given_back
 untouched (opening first size) l m r e =

@@ -1,10 +1,8 @@
 -- The kept count of free addresses, on any memory and after any call: right stays right;
 -- a wrong one changes no other answer, and moves as a right one.
-use Rattle.std.specs.Prelude.{ℕ, ◌+◌, ◌-◌, ◌≡◌, true, false, List, length}
-use Rattle.refusal.specs.declared.Verdict.TheVariants.{Accepted}
+use Rattle.std.specs.Prelude.{ℕ, ◌+◌, ◌-◌, ◌≡◌, true, false, List, length, Ok}
 use Rattle.address_slots.specs.Slot.{held_by, has, count_free}
 use Rattle.address_ledger.specs.Ledger.{Outcome, counted_of, places_of, judged_of, cut, ledger_of, opened, granted, given_back}
-use Rattle.address_ledger.specs.declared.answer.AddressAnswer.TheVariants.{Address}
 use Rattle.address_ledger.specs.declared.ledger.Ledger.{Ledger}
 
 abbrev pub RightCount : Ledger → List ℕ → Type 0
@@ -33,8 +31,8 @@ pub record AnyCount : Type 0 where
 
 -- ---- it moves by one where an address changes hands, is then cut to 0 or how many count, and else stays
 pub record Moves : Type 0 where
-  pub granted-new : (l : Ledger) (m b : List ℕ) (a : ℕ) → has (held_by b) (places_of l m) ≡ false → (granted l m b).answer ≡ Address a
+  pub granted-new : (l : Ledger) (m b : List ℕ) (a : ℕ) → has (held_by b) (places_of l m) ≡ false → (granted l m b).answer ≡ Ok a
       → (granted l m b).ledger.free ≡ cut (counted_of l) (l.free - 1)
   pub granted-again : (l : Ledger) (m b : List ℕ) → has (held_by b) (places_of l m) ≡ true → (granted l m b).ledger ≡ l
-  pub given_back_lem : (l : Ledger) (m b : List ℕ) → Accepted ≡ judged_of l m → has (held_by b) (places_of l m) ≡ true
+  pub given_back_lem : (l : Ledger) (m b : List ℕ) → Ok tt ≡ judged_of l m → has (held_by b) (places_of l m) ≡ true
       → (given_back l m b).ledger.free ≡ cut (counted_of l) (l.free + 1)

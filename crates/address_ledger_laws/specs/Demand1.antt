@@ -1,10 +1,9 @@
 -- Demand 1 for the ledger: every call answers, a refusal has its number and changes neither the ledger nor the
 -- lent memory, and its value is 0.
-use Rattle.std.specs.Prelude.{ℕ, zero, suc, ◌*◌, ◌/◌, ◌≡◌, Bool, false, cond, ◌&&◌, ◌||◌, List, leb, length, take, drop}
+use Rattle.std.specs.Prelude.{ℕ, zero, suc, ◌*◌, ◌/◌, ◌≡◌, Bool, false, cond, ◌&&◌, ◌||◌, List, leb, length, take, drop, Err}
 use Rattle.refusal.specs.Verdict.{verdict_number}
 use Rattle.refusal.specs.declared.Refusal.{Refusal}
-use Rattle.refusal.specs.declared.Verdict.{Verdict}
-use Rattle.refusal.specs.declared.Verdict.TheVariants as verdict
+use Rattle.refusal.specs.Verdict.{Verdict}
 use Rattle.address_slots.specs.Slot.{Slot, held_by, is_free, has}
 use Rattle.address_slots.specs.Marks.{marked}
 use Rattle.address_ledger.specs.range.Range.{in_limits}
@@ -92,6 +91,6 @@ unfoldable pub refusal_number : LedgerCall → Ledger → List ℕ → ℕ
 refusal_number c l m = cond (in_limits (first_of c l) (size_of c l)) (room_number c l m) 13
 
 pub record Demand1 : Type 0 where
-  pub untouched : (c : LedgerCall) (l : Ledger) (m : List ℕ) (r : Refusal) → (perform c l m).verdict ≡ verdict.Refused r
+  pub untouched : (c : LedgerCall) (l : Ledger) (m : List ℕ) (r : Refusal) → (perform c l m).verdict ≡ Err r
       → Untouched c l m (perform c l m)
   pub numbers : (c : LedgerCall) (l : Ledger) (m : List ℕ) → verdict_number (perform c l m).verdict ≡ refusal_number c l m

@@ -1,13 +1,11 @@
 -- Histories: lists of calls on one range and one lent memory, which nothing else writes; and who holds which address, told from the calls
 -- and their answers alone. The free count and the summary (02 requests 8 and 13) are values beside the memory: between two calls the caller
 -- may put any others in their place, so a history may hand every call a count and a summary of its own, right or wrong.
-use Rattle.std.specs.Prelude.{ℕ, ◌*◌, ◌<◌, ◌≡◌, Bool, true, false, cond, ◌&&◌, ◌||◌, List, [], ◌∷◌, eqb, ltb, length, get_or}
-use Rattle.refusal.specs.declared.Verdict.TheVariants.{Accepted}
+use Rattle.refusal.specs.declared.Refusal.{Refusal}
+use Rattle.std.specs.Prelude.{ℕ, ◌*◌, ◌<◌, ◌≡◌, Bool, true, false, cond, ◌&&◌, ◌||◌, List, [], ◌∷◌, eqb, ltb, length, get_or, Result, Ok, Err}
 use Rattle.address_slots.specs.Slot.{same}
 use Rattle.address_ledger.specs.range.Range.{judged, counted}
 use Rattle.address_ledger.specs.Ledger.{ledger_of, opened, granted, given_back}
-use Rattle.address_ledger.specs.declared.answer.AddressAnswer.{AddressAnswer}
-use Rattle.address_ledger.specs.declared.answer.AddressAnswer.TheVariants.{Address, Refused}
 use Rattle.address_ledger.specs.declared.ledger.Ledger.{Ledger}
 
 -- the ledger is opened again, a board asks for an address or gives its own back, or somebody asks how many are free; and, no call of the
@@ -49,13 +47,13 @@ strike b [] = []
 strike b (h ∷ hs) = cond (same 8 h.board b) hs (h ∷ strike b hs)
 
 -- an address answered to a board that holds none is a new holding; a refusal changes nothing
-unfoldable pub after_ask : List ℕ → AddressAnswer → List Holding → List Holding
-after_ask b (Address a) hs = cond (listed b hs) hs (enter (record { board = b; address = a }) hs)
-after_ask b (Refused r) hs = hs
+unfoldable pub after_ask : List ℕ → Result ℕ Refusal → List Holding → List Holding
+after_ask b (Ok a) hs = cond (listed b hs) hs (enter (record { board = b; address = a }) hs)
+after_ask b (Err r) hs = hs
 
-unfoldable pub after_give : List ℕ → AddressAnswer → List Holding → List Holding
-after_give b (Address a) hs = strike b hs
-after_give b (Refused r) hs = hs
+unfoldable pub after_give : List ℕ → Result ℕ Refusal → List Holding → List Holding
+after_give b (Ok a) hs = strike b hs
+after_give b (Err r) hs = hs
 
 -- ---- a history is played
 pub record Moment : Type 0 where
@@ -103,6 +101,6 @@ threaded (hands free summary ∷ cs) = false
 
 -- a fresh ledger, which is one with no mark 1, and a history of boards with 8-byte identifiers
 pub record Begins (first size : ℕ) (m : List ℕ) (cs : List Call) : Type 0 where
-  pub accepted : Accepted ≡ judged first size (length m)
+  pub accepted : Ok tt ≡ judged first size (length m)
   pub fresh : (k : ℕ) → k < counted first size → get_or m (9 * k) 0 ≡ 1 → ⊥
   pub boards : whole_boards cs ≡ true

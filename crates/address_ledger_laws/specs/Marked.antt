@@ -1,13 +1,11 @@
 -- The marks of the groups of 64 addresses: right ones stay right and find what a walk of all addresses finds; with wrong ones the first
 -- marked group that has a free address counts; and a call marks the group that it writes to anew, and no other.
-use Rattle.std.specs.Prelude.{ℕ, ◌+◌, ◌*◌, ◌/◌, ◌<◌, ◌≡◌, true, false, List, length}
+use Rattle.std.specs.Prelude.{ℕ, ◌+◌, ◌*◌, ◌/◌, ◌<◌, ◌≡◌, true, false, List, length, Ok, Err}
 use Rattle.refusal.specs.declared.Refusal.TheVariants.{Full}
-use Rattle.refusal.specs.declared.Verdict.{Verdict}
-use Rattle.refusal.specs.declared.Verdict.TheVariants as verdict
+use Rattle.refusal.specs.Verdict.{Verdict}
 use Rattle.address_slots.specs.Slot.{Slot, held_by, is_free, lowest, has, slot_found}
 use Rattle.address_slots.specs.Marks.{marked, group_at, marks_of}
 use Rattle.address_ledger.specs.Ledger.{Outcome, outcome, counted_of, places_of, judged_of, opened, granting, granted, given_back}
-use Rattle.address_ledger.specs.declared.answer.AddressAnswer.TheVariants.{Address, Refused}
 use Rattle.address_ledger.specs.declared.ledger.Ledger.{Ledger}
 
 -- ---- right marks
@@ -23,8 +21,8 @@ pub record MarksStay : Type 0 where
 
 -- ---- granting by a walk of all places, FULL included: what right marks give too
 unfoldable pub walked_by : Verdict → Ledger → List ℕ → List ℕ → Outcome
-walked_by verdict.Accepted l m b = granting (counted_of l) l m b (slot_found b (places_of l m))
-walked_by (verdict.Refused r) l m b = outcome (Refused r) l m
+walked_by (Ok tt) l m b = granting (counted_of l) l m b (slot_found b (places_of l m))
+walked_by (Err r) l m b = outcome (Err r) l m
 
 unfoldable pub AsWalked : Type 0
 AsWalked = (l : Ledger) (m b : List ℕ) → RightMarks l m → granted l m b ≡ walked_by (judged_of l m) l m b
@@ -39,17 +37,17 @@ pub record MarkedAnew (l : Ledger) (k : ℕ) (o : Outcome) : Type 0 where
   pub others : (g : ℕ) → (g ≡ k / 64 → ⊥) → marked g o.ledger.summary ≡ marked g l.summary
 
 pub record AnyMarks : Type 0 where
-  pub first : (l : Ledger) (m b : List ℕ) → verdict.Accepted ≡ judged_of l m → has (held_by b) (places_of l m) ≡ false
+  pub first : (l : Ledger) (m b : List ℕ) → Ok tt ≡ judged_of l m → has (held_by b) (places_of l m) ≡ false
       → (g : ℕ) → g < 64 → marked g l.summary ≡ true → has is_free (group_at g (places_of l m)) ≡ true
       → NoneBelow l.summary (places_of l m) g
-      → (granted l m b).answer ≡ Address (l.first + (64 * g + lowest is_free (group_at g (places_of l m))))
-  pub full : (l : Ledger) (m b : List ℕ) → verdict.Accepted ≡ judged_of l m → has (held_by b) (places_of l m) ≡ false
-      → NoneBelow l.summary (places_of l m) 64 → granted l m b ≡ outcome (Refused Full) l m
+      → (granted l m b).answer ≡ Ok (l.first + (64 * g + lowest is_free (group_at g (places_of l m))))
+  pub full : (l : Ledger) (m b : List ℕ) → Ok tt ≡ judged_of l m → has (held_by b) (places_of l m) ≡ false
+      → NoneBelow l.summary (places_of l m) 64 → granted l m b ≡ outcome (Err Full) l m
   pub granted-new : (l : Ledger) (m b : List ℕ) (k : ℕ) → has (held_by b) (places_of l m) ≡ false
-      → (granted l m b).answer ≡ Address (l.first + k)
+      → (granted l m b).answer ≡ Ok (l.first + k)
       → MarkedAnew l k (granted l m b)
-  pub given_back_lem : (l : Ledger) (m b : List ℕ) (k : ℕ) → (given_back l m b).answer ≡ Address (l.first + k)
+  pub given_back_lem : (l : Ledger) (m b : List ℕ) (k : ℕ) → (given_back l m b).answer ≡ Ok (l.first + k)
       → MarkedAnew l k (given_back l m b)
   -- which after a give back has a free address
-  pub given-marked : (l : Ledger) (m b : List ℕ) (k : ℕ) → (given_back l m b).answer ≡ Address (l.first + k)
+  pub given-marked : (l : Ledger) (m b : List ℕ) (k : ℕ) → (given_back l m b).answer ≡ Ok (l.first + k)
       → marked (k / 64) (given_back l m b).ledger.summary ≡ true

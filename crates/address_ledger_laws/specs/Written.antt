@@ -1,9 +1,8 @@
 -- What the calls write, said of the bytes of the memory that they leave:
 -- a new grant the nine bytes of its place, a give back one byte, a repeated grant none.
-use Rattle.std.specs.Prelude.{ℕ, ◌+◌, ◌*◌, ◌≡◌, true, false, List, ◌∷◌, length, get_or, take, drop}
+use Rattle.std.specs.Prelude.{ℕ, ◌+◌, ◌*◌, ◌≡◌, true, false, List, ◌∷◌, length, get_or, take, drop, Ok}
 use Rattle.address_slots.specs.Slot.{held_by, has}
 use Rattle.address_ledger.specs.Ledger.{places_of, granted, given_back}
-use Rattle.address_ledger.specs.declared.answer.AddressAnswer.TheVariants.{Address}
 use Rattle.address_ledger.specs.declared.ledger.Ledger.{Ledger}
 
 -- mark 1 and the board from byte 9k on; all before and all after as it was
@@ -19,7 +18,7 @@ pub record FreeNow (m : List ℕ) (k : ℕ) (after : List ℕ) : Type 0 where
 
 pub record Written : Type 0 where
   pub granted-new : (l : Ledger) (m b : List ℕ) (k : ℕ) → length b ≡ 8 → has (held_by b) (places_of l m) ≡ false
-      → (granted l m b).answer ≡ Address (l.first + k) → HoldsNow m k b (granted l m b).memory
+      → (granted l m b).answer ≡ Ok (l.first + k) → HoldsNow m k b (granted l m b).memory
   pub granted-again : (l : Ledger) (m b : List ℕ) → has (held_by b) (places_of l m) ≡ true → (granted l m b).memory ≡ m
-  pub given_back_lem : (l : Ledger) (m b : List ℕ) (k : ℕ) → (given_back l m b).answer ≡ Address (l.first + k)
+  pub given_back_lem : (l : Ledger) (m b : List ℕ) (k : ℕ) → (given_back l m b).answer ≡ Ok (l.first + k)
       → FreeNow m k (given_back l m b).memory

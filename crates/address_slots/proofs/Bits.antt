@@ -1,9 +1,10 @@
 -- The marks as bits: a machine's `or` and shifts do what the definitions do bit by bit.
-use Prim.Native.Nat.{ℕ, zero, suc, ◌+◌, ◌-◌, ◌*◌, ◌/◌, ◌%◌, ◌^◌, ◌≤◌, ◌<◌}
+use Prim.Native.Nat.{ℕ, zero, suc, ◌+◌, ◌-◌, ◌*◌, ◌/◌, ◌%◌, ◌^◌, ◌<◌}
 use mathlib.Core.Path.{◌≡◌, ◌∙◌}
 use mathlib.Core.Bool.{true, false}
 use native.Mathlib.Omega.{arith}
-use lib.Bits.{bit_or, or_step, or_zero_r}
+use lib.Bits.{bit_and, bit_or, or_step, or_zero_r, or_add_and}
+use Rattle.std.proofs.lemmas.Nat.{and_comm, and-not}
 use lib.Pow.{shl_exact}
 use Rattle.address_slots.specs.Marks.{with_mark}
 
@@ -32,8 +33,17 @@ module _ (g x : ℕ) (h : g < 64) where
   pub set_is : bit_or x ((1 * 2 ^ g) % 2 ^ 64) ≡ with_mark g true x
   set_is = rw (one_shifted g h) (or-marks g x)
 
-  pub set-covers : (1 * 2 ^ g) % 2 ^ 64 ≤ bit_or x ((1 * 2 ^ g) % 2 ^ 64)
-  set-covers = rw (set_is, one_shifted g h) (omega (arith, less-bit g x))
-
-  pub cleared-is : bit_or x ((1 * 2 ^ g) % 2 ^ 64) - (1 * 2 ^ g) % 2 ^ 64 ≡ with_mark g false x
-  cleared-is = rw (set_is, one_shifted g h) (omega (arith, less-bit g x))
+  -- a mark is cleared by `and` with all other bits
+  pub cleared-is : x < 2 ^ 64 → bit_and x (18446744073709551615 - (1 * 2 ^ g) % 2 ^ 64) ≡ with_mark g false x
+  cleared-is r =
+      let p : (1 * 2 ^ g) % 2 ^ 64 < 2 ^ 64 = omega arith in
+      omega (
+        arith,
+        one_shifted g h,
+        and-not 64 ((1 * 2 ^ g) % 2 ^ 64) x p r,
+        and_comm x (18446744073709551615 - (1 * 2 ^ g) % 2 ^ 64),
+        and_comm x ((1 * 2 ^ g) % 2 ^ 64),
+        or_add_and x ((1 * 2 ^ g) % 2 ^ 64),
+        set_is,
+        less-bit g x,
+      )

@@ -1,16 +1,17 @@
 -- The walk over the groups: where none so far was marked and had a free place, the search goes on as from the start.
 use Prim.Native.Nat.{ℕ, suc, ◌+◌, ◌-◌, ◌*◌, ◌/◌, ◌%◌, ◌≤◌, ◌<◌}
 use mathlib.Core.Path.{◌≡◌, refl, sym, ap, ◌∙◌}
-use mathlib.Core.Bool.{Bool, true, false, cond, ◌&&◌}
+use mathlib.Core.Bool.{Bool, true, false, cond, ◌&&◌, and-false}
 use mathlib.Core.List.{List}
 use native.Mathlib.Omega.{arith}
-use borrow.Author.Tests.{lt-ltb, le-ltb, ltb-true}
+use borrow.Author.Tests.{eq-eqb, ne_eqb, lt-ltb, ltb-true}
+use native.Mathlib.Nat.{zero-add}
 use lib.Dec.{eqb}
-use lib.ListN.{length, drop, length-take, length-drop}
+use lib.ListN.{drop}
+use Rattle.std.specs.Prelude.{Some, None}
 use lib.Seq.{drop-drop}
 use Rattle.address_slots.specs.SlotLemmas.{length-slots}
-use Rattle.lemmas.specs.logic.Tests.{both_right}
-use Rattle.address_slots.specs.Slot.{slots, is_free, held_by, lowest, has}
+use Rattle.address_slots.specs.Slot.{slots, is_free, held_by, lowest, lowest_from, has}
 use Rattle.address_slots.specs.Marks.{group_at, marked, free_by, slot_found_by}
 use Rattle.address_slots.specs.declared.slot.SlotFound.{SlotFound}
 use Rattle.address_slots.specs.declared.slot.SlotFound.TheVariants.{Held, Free, Nothing}
@@ -19,57 +20,63 @@ pub record Passed (n : ℕ) (m : List ℕ) (x left g : ℕ) : Type 0 where
   pub within : g ≤ 64
   pub same : free_by 64 x 0 (slots n m) ≡ free_by (64 - g) left (64 * g) (drop (64 * g) (slots n m))
 
+pub none-no : (b : Bool) (k : ℕ) → None ≡ cond b (Some k) None → b ≡ false
+none-no true k e = let z : ◌≡◌ {A = ℕ} 0 1 = cc in absurd (omega arith)
+none-no false k e = refl
+
+pub some-is : (b : Bool) (k j : ℕ) → Some j ≡ cond b (Some k) None → (b ≡ true) × (j ≡ k)
+some-is true k j e = (refl, cc)
+some-is false k j e = let z : ◌≡◌ {A = ℕ} 0 1 = cc in absurd (omega arith)
+
 module _ (n : ℕ) (m : List ℕ) (x : ℕ) where
-  module _ (left g : ℕ) (w : Passed n m x left g) (h : g < 64) (place : ℕ)
-      (e : place
-      ≡ cond (eqb (left % 2) 1 && has is_free (group_at g (slots n m))) (64 * g + lowest is_free (group_at g (slots n m))) n) where
-    -- a place that is found is one of them
-    inside : has is_free (group_at g (slots n m)) ≡ true → 64 * g + lowest is_free (group_at g (slots n m)) < n
-    unfolding has
-    inside t =
-        let l = ltb-true (lowest is_free (group_at g (slots n m))) (length (group_at g (slots n m))) t in
-        omega (arith, l, length-take 64 (drop (64 * g) (slots n m)), length-drop (64 * g) (slots n m), length-slots n m)
-
-    more_by : (t : Bool) → (eqb (left % 2) 1 && has is_free (group_at g (slots n m))) ≡ t → n ≤ place
-        → free_by (suc (64 - (g + 1))) left (64 * g) (drop (64 * g) (slots n m))
-        ≡ free_by (64 - (g + 1)) (left / 2) (64 * (g + 1)) (drop (64 * (g + 1)) (slots n m))
-    unfolding free_by marked
-    more_by true t l =
-        let f : place ≡ 64 * g + lowest is_free (group_at g (slots n m)) = rw t at e in
-        absurd (omega (arith, inside (both_right (eqb (left % 2) 1) (has is_free (group_at g (slots n m))) t)))
-    more_by false t l =
-        let j : 64 * g + 64 ≡ 64 * (g + 1) = omega arith in
-        rw (t, drop-drop 64 (64 * g) (slots n m), j)
-
-    pub pass-more : n ≤ place → Passed n m x (left / 2) (g + 1)
-    pass-more l =
+  module _ (left g : ℕ) (w : Passed n m x left g) (h : g < 64) where
+    from-here : free_by 64 x 0 (slots n m) ≡ free_by (suc (64 - (g + 1))) left (64 * g) (drop (64 * g) (slots n m))
+    from-here =
         let k : 64 - g ≡ suc (64 - (g + 1)) = omega arith in
-        record {
-          within = omega arith;
-          same = w.same ∙ ap (λ (i : ℕ). free_by i left (64 * g) (drop (64 * g) (slots n m))) k ∙ more_by _ refl l;
-        }
+        w.same ∙ ap (λ (i : ℕ). free_by i left (64 * g) (drop (64 * g) (slots n m))) k
 
-    found-by : (t : Bool) → (eqb (left % 2) 1 && has is_free (group_at g (slots n m))) ≡ t → place < n
-        → Free place ≡ free_by (suc (64 - (g + 1))) left (64 * g) (drop (64 * g) (slots n m))
+    pass : (eqb (left % 2) 1 && has is_free (group_at g (slots n m))) ≡ false → Passed n m x (left / 2) (g + 1)
     unfolding free_by marked
-    found-by true t l = let f : place ≡ 64 * g + lowest is_free (group_at g (slots n m)) = rw t at e in rw (t, f)
-    found-by false t l = let f : place ≡ n = rw t at e in absurd (omega arith)
+    pass t =
+        let j : 64 * g + 64 ≡ 64 * (g + 1) = omega arith in
+        record { within = omega arith; same = from-here ∙ rw (t, drop-drop 64 (64 * g) (slots n m), j) }
 
-    pub pass-found : place < n → Free place ≡ free_by 64 x 0 (slots n m)
-    pass-found l =
-        let k : suc (64 - (g + 1)) ≡ 64 - g = omega arith in
-        found-by _ refl l ∙ ap (λ (i : ℕ). free_by i left (64 * g) (drop (64 * g) (slots n m))) k ∙ sym w.same
+    -- a group without a mark
+    pub pass-unmarked : (left % 2 ≡ 1 → ⊥) → Passed n m x (left / 2) (g + 1)
+    pass-unmarked u = pass (rw (ne_eqb _ _ u))
+
+    -- a group without a free place
+    pub pass-full : None ≡ lowest_from is_free (64 * g) (group_at g (slots n m)) → Passed n m x (left / 2) (g + 1)
+    pass-full e = pass (rw (none-no _ _ e) (and-false (eqb (left % 2) 1)))
+
+    pub pass-found : left % 2 ≡ 1 → (place : ℕ) → Some place ≡ lowest_from is_free (64 * g) (group_at g (slots n m))
+        → Free place ≡ free_by 64 x 0 (slots n m)
+    unfolding free_by marked
+    pass-found o place e =
+        let f = some-is _ _ _ e in
+        sym (from-here ∙ rw (eq-eqb _ _ o, f.0, ← f.1))
 
   pub pass-end : (left g : ℕ) → Passed n m x left g → 64 ≤ g → Nothing ≡ free_by 64 x 0 (slots n m)
   unfolding free_by
   pass-end left g w h = let k : 64 - g ≡ 0 = omega arith in sym (w.same ∙ rw k)
 
 -- ---- the board first
-module _ (x : ℕ) (b : List ℕ) (n : ℕ) (m : List ℕ) (held : ℕ) (e : held ≡ lowest (held_by b) (slots n m)) where
-  pub sought-held : held < n → Held held ≡ slot_found_by x b (slots n m)
-  unfolding slot_found_by has
-  sought-held l = rw (← e, length-slots n m, lt-ltb held n l)
+module _ (b : List ℕ) (n : ℕ) (m : List ℕ) where
+  pub board-at : (k : ℕ) → Some k ≡ lowest_from (held_by b) 0 (slots n m) → (k ≡ lowest (held_by b) (slots n m)) × (k < n)
+  unfolding has
+  board-at k e =
+      let f = some-is _ _ _ e in
+      (f.1 ∙ zero-add _, omega (arith, f.1, ltb-true _ _ f.0, length-slots n m))
 
-  pub sought-free : n ≤ held → (s : SlotFound) → s ≡ free_by 64 x 0 (slots n m) → s ≡ slot_found_by x b (slots n m)
+  pub board-none : None ≡ lowest_from (held_by b) 0 (slots n m) → has (held_by b) (slots n m) ≡ false
+  board-none e = none-no _ _ e
+
+module _ (x : ℕ) (b : List ℕ) (n : ℕ) (m : List ℕ) where
+  pub sought-held : (k : ℕ) → k ≡ lowest (held_by b) (slots n m) → k < n → Held k ≡ slot_found_by x b (slots n m)
   unfolding slot_found_by has
-  sought-free l s d = rw (← e, length-slots n m, le-ltb held n l) d
+  sought-held k e l = rw (← e, length-slots n m, lt-ltb k n l)
+
+  pub sought-free : has (held_by b) (slots n m) ≡ false → (s : SlotFound) → s ≡ free_by 64 x 0 (slots n m)
+      → s ≡ slot_found_by x b (slots n m)
+  unfolding slot_found_by
+  sought-free h s d = rw h d

@@ -1,16 +1,18 @@
 -- Taking and dropping places is taking fewer of them, from further on in the bytes: so a group is a run of places.
 use Prim.Native.Nat.{ℕ, zero, suc, ◌+◌, ◌-◌, ◌*◌, ◌/◌, ◌≤◌, ◌<◌, min}
 use mathlib.Core.Path.{◌≡◌, refl, sym, ap, ◌∙◌}
-use mathlib.Core.Bool.{Bool, true, false, cond, not, ◌&&◌}
+use mathlib.Core.Bool.{Bool, true, false, cond, not}
 use mathlib.Core.List.{List, [], ◌∷◌, ◌++◌}
 use native.Mathlib.Omega.{arith}
 use native.Mathlib.Nat.{zero-add}
-use borrow.Author.Tests.{lt-ltb, le-ltb, ltb-true, ltb-false, eq-eqb, ne_eqb}
-use lib.Dec.{eqb, ltb}
+use borrow.Author.Tests.{lt-ltb, le-ltb, ne_eqb}
+use lib.Dec.{eqb}
 use lib.ListN.{length, take, drop}
+use Rattle.std.specs.Option.{is_some}
+use Rattle.std.specs.Prelude.{Option, Some, None}
+use Rattle.address_slots.proofs.Scan.{ltb-suc}
 use lib.Seq.{drop-drop}
-use Rattle.address_slots.specs.SlotLemmas.{length-slots}
-use Rattle.address_slots.specs.Slot.{Slot, slots, is_free, lowest, has, count_free}
+use Rattle.address_slots.specs.Slot.{Slot, slots, is_free, lowest, has, lowest_from, count_free}
 use Rattle.address_slots.specs.Marks.{group_at, with_mark, refreshed}
 
 pub places-take : (j n : ℕ) (m : List ℕ) → take j (slots n m) ≡ slots (min j n) m
@@ -40,46 +42,17 @@ group-places g n end m e =
     ∙ ap (λ (x : ℕ). slots x (drop (9 * (64 * g)) m)) f
 
 -- ---- the lowest free place of a group
-bounded-by : (q : Slot → Bool) (p : Slot) (ps : List Slot) (x : Bool) → q p ≡ x → lowest q ps ≤ length ps
-    → lowest q (p ∷ ps) ≤ suc (length ps)
-unfolding lowest
-bounded-by q p ps true e h = rw e (omega arith)
-bounded-by q p ps false e h = rw e (omega arith)
+module _ (g n end : ℕ) (m : List ℕ) (e : end ≡ min (64 * g + 64) n) where
+  pub group-free : (r : Option ℕ) → r ≡ lowest_from is_free (64 * g) (slots (end - 64 * g) (drop (9 * (64 * g)) m))
+      → r ≡ lowest_from is_free (64 * g) (group_at g (slots n m))
+  group-free r f = rw (group-places g n end m e) f
 
-pub bounded : (q : Slot → Bool) (ps : List Slot) → lowest q ps ≤ length ps
-unfolding lowest
-bounded q [] = omega arith
-bounded q (p ∷ ps) = bounded-by q p ps _ refl (bounded q ps)
+some-by : (b : Bool) (k : ℕ) → is_some (cond b (Some k) None) ≡ b
+some-by true k = refl
+some-by false k = refl
 
-module _ (g n end place : ℕ) (m : List ℕ) (e : end ≡ min (64 * g + 64) n)
-    (f : place ≡ 64 * g + lowest is_free (slots (end - 64 * g) (drop (9 * (64 * g)) m))) where
-  found_at : place ≡ 64 * g + lowest is_free (group_at g (slots n m))
-  found_at = rw (group-places g n end m e) f
-
-  group-length : length (group_at g (slots n m)) ≡ end - 64 * g
-  group-length = ap (λ (ps : List Slot). length ps) (group-places g n end m e) ∙ length-slots (end - 64 * g) (drop (9 * (64 * g)) m)
-
-  pub any-by : (x : Bool) → ltb place end ≡ x → ltb place end ≡ has is_free (group_at g (slots n m))
-  unfolding has
-  any-by true t =
-      rw t
-      (sym (lt-ltb (lowest is_free (group_at g (slots n m))) (length (group_at g (slots n m)))
-      (omega (arith, found_at, group-length, ltb-true place end t))))
-  any-by false t =
-      rw t
-      (sym
-      (le-ltb (lowest is_free (group_at g (slots n m))) (length (group_at g (slots n m)))
-      (omega (arith, found_at, group-length, bounded is_free (group_at g (slots n m)), ltb-false place end t))))
-
-  -- the ways out of `find_in_group`
-  module _ (mark : ℕ) (o : mark ≡ 1) where
-    pub in_group : place < end
-        → place ≡ cond (eqb mark 1 && has is_free (group_at g (slots n m))) (64 * g + lowest is_free (group_at g (slots n m))) n
-    in_group l = rw (eq-eqb _ _ o, ← any-by _ refl, lt-ltb place end l) found_at
-
-    pub none-in-group : end ≤ place
-        → n ≡ cond (eqb mark 1 && has is_free (group_at g (slots n m))) (64 * g + lowest is_free (group_at g (slots n m))) n
-    none-in-group l = rw (eq-eqb _ _ o, ← any-by _ refl, le-ltb place end l)
+pub some-free : (j : ℕ) (ps : List Slot) (r : Option ℕ) → r ≡ lowest_from is_free j ps → is_some r ≡ has is_free ps
+some-free j ps r e = rw e (some-by (has is_free ps) (j + lowest is_free ps))
 
 -- ---- counting free places
 append-cons : (p : Slot) (ps qs : List Slot) (x : Bool) → is_free p ≡ x → count_free (ps ++ qs) ≡ count_free ps + count_free qs
@@ -93,17 +66,13 @@ unfolding count_free
 count-append [] qs = sym (zero-add (count_free qs))
 count-append (p ∷ ps) qs = append-cons p ps qs _ refl (count-append ps qs)
 
-ltb-suc : (a b : ℕ) (x : Bool) → ltb a b ≡ x → ltb (suc a) (suc b) ≡ ltb a b
-ltb-suc a b true e = lt-ltb (suc a) (suc b) (omega (arith, ltb-true a b e)) ∙ sym e
-ltb-suc a b false e = le-ltb (suc a) (suc b) (omega (arith, ltb-false a b e)) ∙ sym e
-
 has-cons : (p : Slot) (ps : List Slot) (x : Bool) → is_free p ≡ x → has is_free ps ≡ not (eqb (count_free ps) 0)
     → has is_free (p ∷ ps) ≡ not (eqb (count_free (p ∷ ps)) 0)
 unfolding has lowest count_free
 has-cons p ps true e h =
     let some : eqb (suc (count_free ps)) 0 ≡ false = ne_eqb (suc (count_free ps)) 0 (λ (z : suc (count_free ps) ≡ 0). omega arith) in
     rw e (lt-ltb 0 (suc (length ps)) (omega arith) ∙ sym (ap (λ (z : Bool). not z) some))
-has-cons p ps false e h = rw e (ltb-suc (lowest is_free ps) (length ps) _ refl ∙ h)
+has-cons p ps false e h = rw e (ltb-suc (lowest is_free ps) (length ps) ∙ h)
 
 -- a free place is there where some are counted
 pub has-count : (ps : List Slot) → has is_free ps ≡ not (eqb (count_free ps) 0)

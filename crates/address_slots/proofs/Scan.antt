@@ -1,32 +1,28 @@
 -- One turn of each loop over the bytes or the places: what is left from here is one thing and what is left from the next on.
 use Prim.Native.Nat.{ℕ, zero, suc, ◌+◌, ◌-◌, ◌*◌, ◌≤◌, ◌<◌}
-use mathlib.Core.Path.{◌≡◌, refl, sym, ap}
+use mathlib.Core.Path.{◌≡◌, refl, sym, ap, ◌∙◌}
 use mathlib.Core.Bool.{Bool, true, false, ◌&&◌, and-false}
 use mathlib.Core.List.{List, [], ◌∷◌}
 use native.Mathlib.Omega.{arith}
 use native.Mathlib.Nat.{add-zero}
-use borrow.Author.Tests.{eq-eqb, ne_eqb}
-use lib.Dec.{eqb}
-use lib.ListN.{get_or, take, drop}
+use borrow.Author.Tests.{eq-eqb, ne_eqb, lt-ltb, le-ltb, ltb-true, ltb-false}
+use lib.Dec.{eqb, ltb}
+use Rattle.std.specs.Prelude.{Some, None}
+use lib.ListN.{length, get_or, take, drop, length-take, length-drop}
+use lib.Pointwise.{pointwise}
 use lib.Seq.{get_or-drop, drop-drop}
-use Rattle.address_slots.specs.Slot.{Slot, slot_at, slots, same, lowest, is_free, held_by, count_free}
+use Rattle.address_slots.specs.Slot.{Slot, slot_at, slots, same, lowest, has, lowest_from, is_free, held_by, count_free}
 
 -- ---- the bytes of a board
-pub same_step : (n at i : ℕ) (m b : List ℕ) → i < n
-    → same (n - i) (drop (at + i) m) (drop i b)
-    ≡ (eqb (get_or m (at + i) 0) (get_or b i 0) && same (n - (i + 1)) (drop (at + (i + 1)) m) (drop (i + 1) b))
+-- two slices that are as long as one another are equal exactly where all their bytes agree
+same-pointwise : (n : ℕ) (s b : List ℕ) → length s ≡ n → length b ≡ n → pointwise eqb s b ≡ same n s b
 unfolding same
-same_step n at i m b h =
-    let e : n - i ≡ suc (n - (i + 1)) = omega arith in
-    let f : at + i + 0 ≡ at + i = omega arith in
-    let g : at + i + 1 ≡ at + (i + 1) = omega arith in
-    rw (e, get_or-drop, drop-drop, get_or-drop, drop-drop, f, g, add-zero)
-
-pub same_end : (at i : ℕ) (m b : List ℕ) → 8 ≤ i → same (8 - i) (drop (at + i) m) (drop i b) ≡ true
-unfolding same
-same_end at i m b h =
-    let e : 8 - i ≡ 0 = omega arith in
-    rw e
+same-pointwise zero [] [] h k = refl
+same-pointwise zero [] (y ∷ b) h k = absurd (omega arith)
+same-pointwise zero (x ∷ s) b h k = absurd (omega arith)
+same-pointwise (suc n) [] b h k = absurd (omega arith)
+same-pointwise (suc n) (x ∷ s) [] h k = absurd (omega arith)
+same-pointwise (suc n) (x ∷ s) (y ∷ b) h k = ap (λ (t : Bool). (eqb x y && t)) (same-pointwise n s b (omega arith) (omega arith))
 
 same_differs : (n i : ℕ) (s b : List ℕ) → i < n → (get_or s i 0 ≡ get_or b i 0 → ⊥) → same n s b ≡ false
 unfolding same
@@ -46,6 +42,14 @@ unfolding same
 same-take zero s b = refl
 same-take (suc n) [] b = refl
 same-take (suc n) (x ∷ s) b = ap (λ (t : Bool). (eqb x (get_or b 0 0) && t)) (same-take n s (drop 1 b))
+
+-- the eight bytes from `at` on, compared as a slice
+pub eight-same : (at : ℕ) (m b : List ℕ) → at + 8 ≤ length m → length b ≡ 8
+    → pointwise eqb (take (at + 8 - at) (drop at m)) b ≡ same 8 (drop at m) b
+eight-same at m b h k =
+    let e : at + 8 - at ≡ 8 = omega arith in
+    let f : length (take 8 (drop at m)) ≡ 8 = simp (length-take, length-drop) (omega arith) in
+    rw e (same-pointwise 8 (take 8 (drop at m)) b f k ∙ same-take 8 (drop at m) b)
 
 -- ---- one place
 module _ (at : ℕ) (m b : List ℕ) where
@@ -87,21 +91,33 @@ pub places-end : (n i : ℕ) (m : List ℕ) → n ≤ i → slots (n - i) (drop 
 unfolding slots
 places-end n i m h = let e : n - i ≡ 0 = omega arith in rw e
 
+ltb-suc-by : (a b : ℕ) (x : Bool) → ltb a b ≡ x → ltb (suc a) (suc b) ≡ ltb a b
+ltb-suc-by a b true e = lt-ltb (suc a) (suc b) (omega (arith, ltb-true a b e)) ∙ sym e
+ltb-suc-by a b false e = le-ltb (suc a) (suc b) (omega (arith, ltb-false a b e)) ∙ sym e
+
+pub ltb-suc : (a b : ℕ) → ltb (suc a) (suc b) ≡ ltb a b
+ltb-suc a b = ltb-suc-by a b _ refl
+
 -- the lowest place with a property
 module _ (q : Slot → Bool) (n : ℕ) (m : List ℕ) where
   module _ (i : ℕ) (h : i < n) where
-    pub lowest-here : q (slot_at (drop (9 * i) m)) ≡ true → i + lowest q (slots (n - i) (drop (9 * i) m)) ≡ i
-    unfolding lowest
-    lowest-here t = rw (places-step n i m h, t, add-zero)
+    pub from-found : q (slot_at (drop (9 * i) m)) ≡ true → lowest_from q i (slots (n - i) (drop (9 * i) m)) ≡ Some i
+    unfolding lowest has
+    from-found t =
+        let ps = slots (n - (i + 1)) (drop (9 * (i + 1)) m) in
+        rw (places-step n i m h, t, add-zero, lt-ltb 0 (suc (length ps)) (omega arith))
 
-    pub lowest-next : q (slot_at (drop (9 * i) m)) ≡ false
-        → i + lowest q (slots (n - i) (drop (9 * i) m)) ≡ (i + 1) + lowest q (slots (n - (i + 1)) (drop (9 * (i + 1)) m))
-    unfolding lowest
-    lowest-next t = rw (places-step n i m h, t) (omega arith)
+    pub from-next : q (slot_at (drop (9 * i) m)) ≡ false
+        → lowest_from q i (slots (n - i) (drop (9 * i) m)) ≡ lowest_from q (i + 1) (slots (n - (i + 1)) (drop (9 * (i + 1)) m))
+    unfolding lowest has
+    from-next t =
+        let ps = slots (n - (i + 1)) (drop (9 * (i + 1)) m) in
+        let e : i + suc (lowest q ps) ≡ i + 1 + lowest q ps = omega arith in
+        rw (places-step n i m h, t, e, ltb-suc (lowest q ps) (length ps))
 
-  pub lowest-end : (i : ℕ) → n ≤ i → i + lowest q (slots (n - i) (drop (9 * i) m)) ≡ i
-  unfolding lowest
-  lowest-end i h = rw (places-end n i m h, add-zero)
+  pub from-end : (i : ℕ) → n ≤ i → lowest_from q i (slots (n - i) (drop (9 * i) m)) ≡ None
+  unfolding lowest has
+  from-end i h = rw (places-end n i m h)
 
 -- how many are free
 module _ (n : ℕ) (m : List ℕ) where

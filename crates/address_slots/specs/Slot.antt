@@ -1,6 +1,6 @@
 -- The lent memory read as places, nine bytes an address and the lowest address first:
 -- a mark (1 held, else free) and the board's 8-byte identifier.
-use Rattle.std.specs.Prelude.{ℕ, zero, suc, ◌+◌, ◌*◌, Bool, true, cond, not, ◌&&◌, eqb, leb, ltb}
+use Rattle.std.specs.Prelude.{ℕ, zero, suc, ◌+◌, ◌*◌, Bool, true, cond, not, ◌&&◌, eqb, leb, ltb, Option, Some, None}
 use Rattle.std.specs.Prelude.{List, [], ◌∷◌, length, get_or, take, drop, set}
 use Rattle.std.proofs.Math.Seq.{paste}
 use Rattle.address_slots.specs.declared.slot.SlotFound.{SlotFound}
@@ -60,6 +60,10 @@ lowest q (p ∷ ps) = cond (q p) 0 (suc (lowest q ps))
 
 unfoldable pub has : (Slot → Bool) → List Slot → Bool
 has q ps = ltb (lowest q ps) (length ps)
+
+-- the number of the lowest place with the property, where j places come before the list; none where no place has it
+abbrev pub lowest_from : (Slot → Bool) → ℕ → List Slot → Option ℕ
+lowest_from q j ps = cond (has q ps) (Some (j + lowest q ps)) None
 
 unfoldable pub count_free : List Slot → ℕ
 count_free [] = 0

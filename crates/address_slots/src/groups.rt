@@ -1,6 +1,6 @@
 // The groups of 64 places and their marks, the bits of one number.
 ghost use Rattle.std.specs.Prelude.{◌≡◌, not, ◌+◌, ◌*◌, ◌≤◌, ◌<◌, min, eqb, length};
-ghost use Rattle.address_slots.specs.Slot.{slots, is_free, has, fit};
+ghost use Rattle.address_slots.specs.Slot.{slots, is_free, lowest_from, fit};
 ghost use Rattle.address_slots.specs.Marks.{bit, with_mark, group_at, summary_of, refreshed};
 
 use crate::slot::{PLACES_MOST, count_free, find_free, fit};
@@ -21,32 +21,24 @@ pub(crate) fn group_end(group: usize, count: usize) -> usize
     requires { group < 64 }
     ensures { result ≡ min (64 * group + 64) count }
 {
-    let end = GROUP * group + GROUP;
-    if count < end {
-        return count;
-    }
-    end
+    count.min(GROUP * group + GROUP)
 }
 
-// Whether any place of the group is free.
-fn any_free(memory: &[u8], group: usize, count: usize) -> bool
+// The lowest free place of the group.
+pub(crate) fn find_in_group(memory: &[u8], group: usize, count: usize) -> Option<usize>
     requires group_bound { group < 64 }
     requires count_in_bounds { 9 * count ≤ length memory.now }
-    ensures { result ≡ has is_free (group_at group (slots count memory.now)) }
+    ensures { result ≡ lowest_from is_free (64 * group) (group_at group (slots count memory.now)) }
 {
     let end = group_end(group, count);
-    let place = find_free(memory, GROUP * group, end);
-    place < end
+    find_free(memory, GROUP * group, end)
 }
 
 // A group's mark, as the lowest bit.
 fn mark_of(free: usize) -> u64
     ensures { result ≡ bit (not (eqb free 0)) }
 {
-    if free == 0 {
-        return 0;
-    }
-    1
+    u64::from(free != 0)
 }
 
 // One walk over the first `count` places, group by group from the highest.
@@ -57,15 +49,12 @@ fn summarize_in(memory: &[u8], count: usize) -> Summary
 {
     let mut free: usize = 0;
     let mut marks: u64 = 0;
-    let mut above = GROUPS;
-    while 0 < above {
-        let group = above - 1;
+    for group in (0..GROUPS).rev() {
         let end = group_end(group, count);
         let found = count_free(memory, GROUP * group, end);
         let mark = mark_of(found);
         free += found;
         marks = mark + 2 * marks;
-        above = group;
     }
     Summary {
         free,
@@ -86,11 +75,10 @@ fn with_mark(marks: u64, group: usize, mark: bool) -> u64
     ensures { result ≡ with_mark group mark marks }
 {
     let bit = 1u64 << group;
-    let set = marks | bit;
     if mark {
-        return set;
+        return marks | bit;
     }
-    set - bit
+    marks & !bit
 }
 
 // The marks after a place was written: its group is marked anew.
@@ -101,6 +89,6 @@ pub fn refresh_group(memory: &[u8], count: usize, marks: u64, place: usize) -> u
         return marks;
     }
     let group = place / GROUP;
-    let mark = any_free(memory, group, fit(count, memory.len()));
-    with_mark(marks, group, mark)
+    let free = find_in_group(memory, group, fit(count, memory.len()));
+    with_mark(marks, group, free.is_some())
 }

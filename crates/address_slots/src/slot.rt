@@ -1,6 +1,6 @@
 // The places of the lent memory, nine bytes each: a mark (1 held, else free) and the board that holds it.
 ghost use Rattle.std.specs.Prelude.{◌≡◌, ◌+◌, ◌-◌, ◌*◌, ◌≤◌, ◌<◌, length, drop};
-ghost use Rattle.address_slots.specs.Slot.{slot_at, slots, same, is_free, held_by, lowest, count_free, hold, hold_within, fit};
+ghost use Rattle.address_slots.specs.Slot.{slot_at, slots, same, is_free, held_by, lowest_from, count_free, hold, hold_within, fit};
 
 pub const SLOT: usize = 9;
 
@@ -10,6 +10,7 @@ pub(crate) const PLACES_MOST: usize = 4096;
 const HELD: u8 = 1;
 
 // What the places have for a board: the lowest one that it holds, else the free one that was looked for.
+// Kept: no plainer: three answers of one search, matched by `Held(k)`, `Free(k)`, `Nothing`; an Option of two cases would nest two matches.
 #[derive(Clone, Copy)]
 pub enum SlotFound {
     Held(usize),
@@ -22,17 +23,7 @@ fn is_board(memory: &[u8], at: usize, board: &[u8; 8]) -> bool
     requires { at + 8 ≤ length memory.now }
     ensures { result ≡ same 8 (drop at memory.now) board.now }
 {
-    if memory[at + 7] != board[7] {
-        return false;
-    }
-    let mut i: usize = 0;
-    while i < 8 {
-        if memory[at + i] != board[i] {
-            return false;
-        }
-        i += 1;
-    }
-    true
+    memory[at + 7] == board[7] && memory[at..at + 8] == board[..]
 }
 
 // Whether the board holds the place that begins at `at`.
@@ -41,53 +32,43 @@ fn holds(memory: &[u8], at: usize, board: &[u8; 8]) -> bool
     requires { at + 9 ≤ length memory.now }
     ensures { result ≡ held_by board.now (slot_at (drop at memory.now)) }
 {
-    if memory[at] != HELD {
-        return false;
-    }
-    is_board(memory, at + 1, board)
+    memory[at] == HELD && is_board(memory, at + 1, board)
 }
 
 // So many places, where they are no more than a ledger has and the memory has room for them; else none.
 pub(crate) fn fit(count: usize, len: usize) -> usize
     ensures { result ≡ fit count len }
 {
-    if PLACES_MOST < count {
-        return 0;
+    if count <= PLACES_MOST && SLOT * count <= len {
+        return count;
     }
-    if len < SLOT * count {
-        return 0;
-    }
-    count
+    0
 }
 
-// The lowest place that the board holds, of the first `count`; `count` where it holds none.
-pub(crate) fn find_holder(memory: &[u8], count: usize, board: &[u8; 8]) -> usize
+// The lowest place that the board holds, of the first `count`.
+pub(crate) fn find_holder(memory: &[u8], count: usize, board: &[u8; 8]) -> Option<usize>
     requires { 9 * count ≤ length memory.now }
-    ensures { result ≡ lowest (held_by board.now) (slots count memory.now) }
+    ensures { result ≡ lowest_from (held_by board.now) 0 (slots count memory.now) }
 {
-    let mut i: usize = 0;
-    while i < count {
+    for i in 0..count {
         if holds(memory, SLOT * i, board) {
-            return i;
+            return Some(i);
         }
-        i += 1;
     }
-    i
+    None
 }
 
-// The lowest free place from `from` on and before `end`, or where the walk ended.
-pub(crate) fn find_free(memory: &[u8], from: usize, end: usize) -> usize
+// The lowest free place from `from` on and before `end`.
+pub(crate) fn find_free(memory: &[u8], from: usize, end: usize) -> Option<usize>
     requires { 9 * end ≤ length memory.now }
-    ensures { result ≡ from + lowest is_free (slots (end - from) (drop (9 * from) memory.now)) }
+    ensures { result ≡ lowest_from is_free from (slots (end - from) (drop (9 * from) memory.now)) }
 {
-    let mut i = from;
-    while i < end {
+    for i in from..end {
         if memory[SLOT * i] != HELD {
-            return i;
+            return Some(i);
         }
-        i += 1;
     }
-    i
+    None
 }
 
 // How many places from `from` on and before `end` are free.
@@ -96,12 +77,10 @@ pub(crate) fn count_free(memory: &[u8], from: usize, end: usize) -> usize
     ensures { result ≡ count_free (slots (end - from) (drop (9 * from) memory.now)) }
 {
     let mut n: usize = 0;
-    let mut i = from;
-    while i < end {
+    for i in from..end {
         if memory[SLOT * i] != HELD {
             n += 1;
         }
-        i += 1;
     }
     n
 }
@@ -114,11 +93,7 @@ fn write_slot(memory: &mut [u8], place: usize, board: [u8; 8])
 {
     let at = SLOT * place;
     memory[at] = HELD;
-    let mut i: usize = 0;
-    while i < 8 {
-        memory[at + 1 + i] = board[i];
-        i += 1;
-    }
+    memory[at + 1..at + SLOT].copy_from_slice(&board);
 }
 
 // The board holds the place from now on; a place for which there is no room is not written.

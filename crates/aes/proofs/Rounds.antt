@@ -5,7 +5,8 @@ use mathlib.Core.List.{List, []}
 use Prim.Native.Nat.{ℕ, zero, suc, ◌+◌, ◌<◌, ◌≤◌}
 use native.Mathlib.Numerals.{add-one}
 use native.Mathlib.Omega.{arith}
-use lib.ListN.{get_or}
+use lib.ListN.{get_or, take, drop}
+use lib.Seq.{get_or-take, get_or-drop}
 use Rattle.aes.specs.Bounds.{Bytes}
 use Rattle.aes.specs.Cipher.{rounds, cipher, add_round_key}
 use Rattle.aes.specs.Words.{RoundTable, spread_by, plain_by, columns_by, rounds_by, cipher_by}
@@ -21,6 +22,10 @@ pub record Rounding (t : List ℕ) (ks : List (List ℕ)) (s x : List ℕ) (n : 
 pub round-begin : {t : List ℕ} {ks : List (List ℕ)} {s : List ℕ} → Rounding t ks s s 0
 unfolding rounds_by rounds
 round-begin = record { low = omega arith; so_far = refl; right = λ holds. refl }
+
+-- the round keys that the loop goes over are those after the first
+pub round-key : (ks : List (List ℕ)) (n : ℕ) → n < 9 → get_or (take 9 (drop 1 ks)) n [] ≡ get_or ks (n + 1) []
+round-key ks n h = get_or-take 9 (drop 1 ks) n [] h ∙ get_or-drop 1 ks n [] ∙ ap (λ (i : ℕ). get_or ks i []) (omega arith)
 
 pub round-step : {t : List ℕ} {ks : List (List ℕ)} {s x y : List ℕ} {n : ℕ} → Rounding t ks s x n → n < 9 → Bytes x
     → y ≡ add_round_key (columns_by (spread_by t) x) (get_or ks (n + 1) []) → Rounding t ks s y (n + 1)

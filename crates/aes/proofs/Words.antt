@@ -6,7 +6,8 @@ use mathlib.Core.List.{List, [], ◌∷◌, ◌++◌}
 use Prim.Native.Nat.{ℕ, ◌+◌, ◌*◌, ◌/◌, ◌%◌, ◌^◌, ◌<◌}
 use native.Mathlib.Nat.{mod-eq_of_lt}
 use native.Mathlib.Omega.{arith}
-use lib.Bits.{bit_xor, xor_shr, xor_mod}
+use Rattle.std.specs.Int.Bits.{bit_or, bit_xor, xor_shr, xor_mod}
+use Rattle.std.proofs.lemmas.Nat.{or_shifted}
 use lib.ListN.{get_or}
 use Rattle.lemmas.specs.lists.Digits as number
 use Rattle.lemmas.specs.lists.Xor.{◌⊕◌}
@@ -52,34 +53,16 @@ turn-once a b c d ha hb hc hd =
     let e : w % 16777216 * 256 + w / 16777216 ≡ d + a * 256 + b * 65536 + c * 16777216 = omega arith in
     ap bytes_of e ∙ word_bytes d a b c hd ha hb hc
 
-turn_twice : (a b c d : ℕ) → a < 256 → b < 256 → c < 256 → d < 256
-    → (let w = a + b * 256 + c * 65536 + d * 16777216 in bytes_of (w % 65536 * 65536 + w / 65536)) ≡ c ∷ d ∷ a ∷ b ∷ []
-turn_twice a b c d ha hb hc hd =
-    let w = a + b * 256 + c * 65536 + d * 16777216 in
-    let e : w % 65536 * 65536 + w / 65536 ≡ c + d * 256 + a * 65536 + b * 16777216 = omega arith in
-    ap bytes_of e ∙ word_bytes c d a b hc hd ha hb
-
-turn-thrice : (a b c d : ℕ) → a < 256 → b < 256 → c < 256 → d < 256
-    → (let w = a + b * 256 + c * 65536 + d * 16777216 in bytes_of (w % 256 * 16777216 + w / 256)) ≡ b ∷ c ∷ d ∷ a ∷ []
-turn-thrice a b c d ha hb hc hd =
-    let w = a + b * 256 + c * 65536 + d * 16777216 in
-    let e : w % 256 * 16777216 + w / 256 ≡ b + c * 256 + d * 65536 + a * 16777216 = omega arith in
-    ap bytes_of e ∙ word_bytes b c d a hb hc hd ha
-
-pub once-bytes : (w : ℕ) → w < 4294967296 → bytes_of (w % 16777216 * 256 + w / 16777216) ≡ turned (bytes_of w)
+once-bytes : (w : ℕ) → w < 4294967296 → bytes_of (w % 16777216 * 256 + w / 16777216) ≡ turned (bytes_of w)
 once-bytes w h =
     ap (λ (x : ℕ). bytes_of (x % 16777216 * 256 + x / 16777216)) (digits w h)
     ∙ turn-once (w % 256) (w / 256 % 256) (w / 65536 % 256) (w / 16777216 % 256) (omega arith) (omega arith) (omega arith) (omega arith)
 
-pub twice_bytes : (w : ℕ) → w < 4294967296 → bytes_of (w % 65536 * 65536 + w / 65536) ≡ turned (turned (bytes_of w))
-twice_bytes w h =
-    ap (λ (x : ℕ). bytes_of (x % 65536 * 65536 + x / 65536)) (digits w h)
-    ∙ turn_twice (w % 256) (w / 256 % 256) (w / 65536 % 256) (w / 16777216 % 256) (omega arith) (omega arith) (omega arith) (omega arith)
-
-pub thrice-bytes : (w : ℕ) → w < 4294967296 → bytes_of (w % 256 * 16777216 + w / 256) ≡ turned (turned (turned (bytes_of w)))
-thrice-bytes w h =
-    ap (λ (x : ℕ). bytes_of (x % 256 * 16777216 + x / 256)) (digits w h)
-    ∙ turn-thrice (w % 256) (w / 256 % 256) (w / 65536 % 256) (w / 16777216 % 256) (omega arith) (omega arith) (omega arith) (omega arith)
+-- the word rotated by eight bits
+pub rotated-bytes : (w : ℕ) → w < 4294967296 → bytes_of (bit_or (w * 256 % 4294967296) (w / 16777216)) ≡ turned (bytes_of w)
+rotated-bytes w h =
+    let e : w * 256 % 4294967296 ≡ w % 16777216 * 2 ^ 8 = omega arith in
+    rw (e, or_shifted (w % 16777216) 8 (w / 16777216) (omega arith)) (once-bytes w h)
 
 parts : (a b c d : ℕ)
     → plus (plus (plus (part a) (turned (part b))) (turned (turned (part c)))) (turned (turned (turned (part d)))) ≡ spread a b c d

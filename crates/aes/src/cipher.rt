@@ -6,6 +6,7 @@ ghost use Rattle.aes.specs.Words.{state_of, RoundTable, spread_by, plain_by, col
 use crate::columns::{column, last_column, word_at};
 use crate::expansion::expand;
 use crate::tables::round_table;
+use std::array::from_fn;
 
 // The state: a word for each column.
 #[derive(Clone, Copy)]
@@ -20,13 +21,7 @@ pub(crate) struct State {
 pub fn add_round_key(s: [u8; 16], k: [u8; 16]) -> [u8; 16]
     ensures { result ≡ add_round_key s k }
 {
-    let mut t = [0u8; 16];
-    let mut i = 0;
-    while i < 16 {
-        t[i] = s[i] ^ k[i];
-        i += 1;
-    }
-    t
+    from_fn(|i| s[i] ^ k[i])
 }
 
 // What the rounds begin with.
@@ -53,6 +48,7 @@ fn round(t: &[u32; 256], s: State, k: [u8; 16]) -> State
 }
 
 // The last round, which has no MixColumns.
+// Kept: not one function with `round` and a closure for the column: its contract would be four `F.post` in place of one equation.
 fn finish(t: &[u32; 256], s: State, k: [u8; 16]) -> State
     ensures { state_of result ≡ add_round_key (columns_by (plain_by t.now) (state_of s)) k }
 {
@@ -68,24 +64,12 @@ fn finish(t: &[u32; 256], s: State, k: [u8; 16]) -> State
 pub(crate) fn bytes_of(s: State) -> [u8; 16]
     ensures { result ≡ state_of s }
 {
-    [
-        (s.a % 256) as u8,
-        (s.a / 256 % 256) as u8,
-        (s.a / 65536 % 256) as u8,
-        (s.a / 16777216 % 256) as u8,
-        (s.b % 256) as u8,
-        (s.b / 256 % 256) as u8,
-        (s.b / 65536 % 256) as u8,
-        (s.b / 16777216 % 256) as u8,
-        (s.c % 256) as u8,
-        (s.c / 256 % 256) as u8,
-        (s.c / 65536 % 256) as u8,
-        (s.c / 16777216 % 256) as u8,
-        (s.d % 256) as u8,
-        (s.d / 256 % 256) as u8,
-        (s.d / 65536 % 256) as u8,
-        (s.d / 16777216 % 256) as u8,
-    ]
+    let mut bytes = [0u8; 16];
+    bytes[..4].copy_from_slice(&s.a.to_le_bytes());
+    bytes[4..8].copy_from_slice(&s.b.to_le_bytes());
+    bytes[8..12].copy_from_slice(&s.c.to_le_bytes());
+    bytes[12..].copy_from_slice(&s.d.to_le_bytes());
+    bytes
 }
 
 // The rounds over a table and round keys, for whoever encrypts many blocks: FIPS 197's cipher where `t` is the answer of `round_table`,
@@ -94,16 +78,11 @@ pub fn encrypt_by(t: &[u32; 256], keys: [[u8; 16]; 11], block: [u8; 16]) -> [u8;
     ensures exact { result ≡ cipher_by t.now keys block }
     ensures standard { RoundTable t.now → result ≡ cipher keys block }
 {
-    let first = keys[0];
-    let mut x = begin(block, first);
-    let mut n = 0;
-    while n < 9 {
-        let k = keys[n + 1];
-        x = round(t, x, k);
-        n += 1;
+    let mut x = begin(block, keys[0]);
+    for k in &keys[1..10] {
+        x = round(t, x, *k);
     }
-    let last = keys[10];
-    bytes_of(finish(t, x, last))
+    bytes_of(finish(t, x, keys[10]))
 }
 
 // AES-128 of one block.

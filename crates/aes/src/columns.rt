@@ -6,7 +6,7 @@ ghost use Rattle.aes.specs.Words.{bytes_of, bytes_from, turned, picked, plain_by
 pub(crate) fn word(a: u8, b: u8, c: u8, d: u8) -> u32
     ensures { bytes_of result ≡ a ∷ b ∷ c ∷ d ∷ [] }
 {
-    (a as u32) + (b as u32) * 256 + (c as u32) * 65536 + (d as u32) * 16777216
+    u32::from_le_bytes([a, b, c, d])
 }
 
 // The four bytes of a block from `at` on as a word.
@@ -18,22 +18,10 @@ pub(crate) fn word_at(block: [u8; 16], at: usize) -> u32
 }
 
 // The bytes of a word moved up by one row, the highest coming in below.
-fn turn_once(w: u32) -> u32
+fn turned(w: u32) -> u32
     ensures { bytes_of result ≡ turned (bytes_of w) }
 {
-    w % 16777216 * 256 + w / 16777216
-}
-
-fn turn_twice(w: u32) -> u32
-    ensures { bytes_of result ≡ turned (turned (bytes_of w)) }
-{
-    w % 65536 * 65536 + w / 65536
-}
-
-fn turn_thrice(w: u32) -> u32
-    ensures { bytes_of result ≡ turned (turned (turned (bytes_of w))) }
-{
-    w % 256 * 16777216 + w / 256
+    w.rotate_left(8)
 }
 
 // One column after a round, which over a right table is SubBytes, MixColumns and AddRoundKey: a to d are the columns from which ShiftRows
@@ -42,9 +30,9 @@ pub(crate) fn column(t: &[u32; 256], a: u32, b: u32, c: u32, d: u32, k: u32) -> 
     ensures { bytes_of result ≡ plus (picked (spread_by t.now) a b c d) (bytes_of k) }
 {
     t[(a % 256) as usize]
-        ^ turn_once(t[(b / 256 % 256) as usize])
-        ^ turn_twice(t[(c / 65536 % 256) as usize])
-        ^ turn_thrice(t[(d / 16777216 % 256) as usize])
+        ^ turned(t[(b / 256 % 256) as usize])
+        ^ turned(turned(t[(c / 65536 % 256) as usize]))
+        ^ turned(turned(turned(t[(d / 16777216 % 256) as usize])))
         ^ k
 }
 

@@ -50,18 +50,16 @@ fn next_key(list: &[u8; 256], rc: u8, k: [u8; 16]) -> [u8; 16]
 }
 
 // The key expansion: eleven round keys of sixteen bytes.
+// Kept: eleven arrays of sixteen bytes, which document 01 and `expand`'s clause (a list of lists) give.
 pub fn expand(key: [u8; 16]) -> [[u8; 16]; 11]
     ensures { result ≡ round_keys 10 key }
 {
     let list = substitution();
     let mut keys = [key; 11];
     let mut rc: u8 = 1;
-    let mut n = 0;
-    while n < 10 {
-        let last = keys[n];
-        keys[n + 1] = next_key(&list, rc, last);
+    for n in 0..10 {
+        keys[n + 1] = next_key(&list, rc, keys[n]);
         rc = times_x(rc);
-        n += 1;
     }
     keys
 }

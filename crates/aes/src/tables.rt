@@ -5,6 +5,7 @@ ghost use Rattle.aes.specs.Field.{sub_byte};
 ghost use Rattle.aes.specs.Words.{RoundTable, round_table};
 
 // The substitution list (FIPS 197, figure 7). A caller makes it once and lends it: a constant is stored anew at each use.
+// Kept: 256 written entries, as document 01 asks; the clause holds them to FIPS 197's rule.
 pub fn substitution() -> [u8; 256]
     ensures { result ≡ table 256 sub_byte }
 {

@@ -1,6 +1,7 @@
 -- What was sealed opens, since the key stream cancels itself and the tag is made of the same text;
 -- and what opens was sealed, for the same reason backwards.
 -- Assumes nothing.
+use Rattle.std.specs.Prelude.{Result}
 use mathlib.Core.Path.{◌≡◌, refl, sym, ◌∙◌, ap, ap₂, subst}
 use mathlib.Core.Bool.{Bool, true, false, cond}
 use mathlib.Core.List.{List, ◌++◌}
@@ -18,7 +19,6 @@ use Rattle.aes.specs.Bounds.{Bytes}
 use Rattle.aes.specs.BoundsLemmas.{cut as cut-bytes}
 use Rattle.aes.specs.Cipher.{round_keys}
 use Rattle.aes.specs.Laws.{AesLaws}
-use Rattle.aes_ccm.specs.declared.WriteResult.{WriteResult}
 use Rattle.aes_ccm.specs.Ccm.{crypt, tag, sealed, text_of, genuine}
 use Rattle.aes_ccm.specs.Plan.{Plan, refuse, emit, Did, number_in, length_in, release_plan, unseal_plan}
 use Rattle.aes_ccm.specs.Laws.{CcmLaws, Judged, RightTag}
@@ -123,7 +123,7 @@ module _ (laws : AesLaws) (key nonce a : List ℕ) where
         = record { data-fits = ha; tag-there = omega arith; text-fits = omega arith; has_room = omega arith } in
         right-tag key nonce a (sealed key nonce a m) room fits right ∙ ap emit text-back
 
-refused : (k : Refusal) (d d' : List ℕ) (r : WriteResult) → Did (refuse k) d r d'
+refused : (k : Refusal) (d d' : List ℕ) (r : Result ℕ Refusal) → Did (refuse k) d r d'
     → (number_in r ≡ number_of k) × (length_in r ≡ 0) × (d' ≡ d)
 refused k d d' r did = (rw did.says, rw did.says, did.holds)
 

@@ -1,11 +1,10 @@
 -- What sealing and opening are to each other, over all keys, nonces, data, texts and destinations.
-use Rattle.std.specs.Prelude.{List, ◌≡◌, ℕ, ◌+◌, ◌-◌, ◌≤◌, length, drop}
+use Rattle.std.specs.Prelude.{List, ◌≡◌, ℕ, ◌+◌, ◌-◌, ◌≤◌, length, drop, Result}
 use Rattle.refusal.specs.Refusal.{number_of}
 use Rattle.refusal.specs.declared.Refusal.{Refusal}
 use Rattle.refusal.specs.declared.Refusal.TheVariants.{Seal}
 use Rattle.aes.specs.Bounds.{Bytes}
 use Rattle.aes.specs.Cipher.{round_keys}
-use Rattle.aes_ccm.specs.declared.WriteResult.{WriteResult}
 use Rattle.aes_ccm.specs.Ccm.{sealed, text_of, tag}
 use Rattle.aes_ccm.specs.Plan.{refuse, emit, Did, number_in, length_in, seal_plan, unseal_plan}
 
@@ -38,5 +37,5 @@ pub record CcmLaws : Type 0 where
   pub opened-bytes : (key nonce a c m : List ℕ) (room : ℕ) → Bytes key → Bytes c → unseal_plan key nonce a c room ≡ emit m → Bytes m
   pub length-sealed : (key nonce a m : List ℕ) → length (sealed key nonce a m) ≡ length m + 8
   -- a refused call answers the refusal's number and no length, and leaves the destination
-  pub refused : (k : Refusal) (d d' : List ℕ) (r : WriteResult) → Did (refuse k) d r d'
+  pub refused : (k : Refusal) (d d' : List ℕ) (r : Result ℕ Refusal) → Did (refuse k) d r d'
       → (number_in r ≡ number_of k) × (length_in r ≡ 0) × (d' ≡ d)

@@ -3,24 +3,17 @@
 
 mod block;
 mod chain;
+mod session;
 mod stream;
 mod tag;
 
-ghost use Rattle.std.specs.Prelude.{cond, ◌≡◌, ◌≤◌, length};
+ghost use Rattle.std.specs.Prelude.{◌≤◌, length};
 ghost use Rattle.aes_ccm.specs.Laws.{CcmLaws};
 ghost use Rattle.aes_ccm.specs.Plan.{Did, seal_plan, unseal_plan, release_plan};
 
-use chain::tag_of;
 use refusal::Refusal;
-use stream::{crypt_into, put};
+use session::Session;
 use tag::same_tag;
-
-// What a call answers: how many bytes it wrote, or why it wrote none.
-#[derive(Clone, Copy)]
-pub enum WriteResult {
-    Refused(Refusal),
-    Length(usize),
-}
 
 // Seals `text` into `dst`: RANGE, ROOM, or the length written.
 pub fn seal(
@@ -29,26 +22,26 @@ pub fn seal(
     associated: &[u8],
     text: &[u8],
     dst: &mut [u8],
-) -> WriteResult
+) -> Result<usize, Refusal>
     ensures { Did (seal_plan key nonce associated.now text.now (length dst.old)) dst.old result
         dst.new }
 {
     if 64 < associated.len() {
-        return WriteResult::Refused(Refusal::Range);
+        return Err(Refusal::Range);
     }
     if 256 < text.len() {
-        return WriteResult::Refused(Refusal::Range);
+        return Err(Refusal::Range);
     }
     if dst.len() < text.len() + 8 {
-        return WriteResult::Refused(Refusal::Room);
+        return Err(Refusal::Room);
     }
     let n = text.len();
     let table = aes::round_table();
-    let keys = aes::expand(key);
-    crypt_into(&table, keys, nonce, text, dst);
-    let tag = tag_of(&table, keys, nonce, associated, text);
-    put(&tag, &mut dst[n..]);
-    WriteResult::Length(n + 8)
+    let session = Session::new(&table, key, nonce);
+    session.crypt_into(text, dst);
+    let tag = session.tag_of(associated, text);
+    dst[n..n + 8].copy_from_slice(&tag);
+    Ok(n + 8)
 }
 
 // Opens `sealed` into `dst`: RANGE, ROOM, SEAL where the tag is not the one of the text in it, or the length written.
@@ -58,50 +51,42 @@ pub fn unseal(
     associated: &[u8],
     sealed: &[u8],
     dst: &mut [u8],
-) -> WriteResult
+) -> Result<usize, Refusal>
     ensures { Did (unseal_plan key nonce associated.now sealed.now (length dst.old))
         dst.old result dst.new }
 {
     if 64 < associated.len() {
-        return WriteResult::Refused(Refusal::Range);
+        return Err(Refusal::Range);
     }
     if sealed.len() < 8 {
-        return WriteResult::Refused(Refusal::Range);
+        return Err(Refusal::Range);
     }
     if 264 < sealed.len() {
-        return WriteResult::Refused(Refusal::Range);
+        return Err(Refusal::Range);
     }
     let n = sealed.len() - 8;
     if dst.len() < n {
-        return WriteResult::Refused(Refusal::Room);
+        return Err(Refusal::Room);
     }
     let table = aes::round_table();
-    let keys = aes::expand(key);
+    let session = Session::new(&table, key, nonce);
     let mut plain = [0u8; 256];
-    crypt_into(&table, keys, nonce, &sealed[..n], &mut plain);
-    let tag = tag_of(&table, keys, nonce, associated, &plain[..n]);
+    session.crypt_into(&sealed[..n], &mut plain);
+    let tag = session.tag_of(associated, &plain[..n]);
     let right = same_tag(&sealed[n..], tag);
     release(right, &plain[..n], dst)
 }
 
-// How many of n bytes may be shown: none where the tag is not the right one.
-fn shown(right: bool, n: usize) -> usize
-    ensures { result ≡ cond right n 0 }
-{
-    if right { n } else { 0 }
-}
-
 // The text leaves for `dst` where its tag is right.
-fn release(right: bool, text: &[u8], dst: &mut [u8]) -> WriteResult
+fn release(right: bool, text: &[u8], dst: &mut [u8]) -> Result<usize, Refusal>
     requires { length text.now ≤ length dst.old }
     ensures { Did (release_plan right text.now) dst.old result dst.new }
 {
-    let count = shown(right, text.len());
-    put(&text[..count], dst);
-    if right {
-        return WriteResult::Length(count);
+    if !right {
+        return Err(Refusal::Seal);
     }
-    WriteResult::Refused(Refusal::Seal)
+    dst[..text.len()].copy_from_slice(text);
+    Ok(text.len())
 }
 
 // What the definitions say of each other: what was sealed opens to its text, nothing else opens, and a text that opens is of bytes.

@@ -1,1 +1,1 @@
-mod Comparison
+pub mod Comparison

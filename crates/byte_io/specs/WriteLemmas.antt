@@ -1,14 +1,12 @@
 -- Lemmas: how the contents of a destination compose:
 -- what is written to its front, and then to the lent part after it, is written one after the other.
 -- These facts hold by lists alone, of any bytes.
-use Rattle.std.specs.Prelude.{ℕ, ◌+◌, ◌-◌, ◌≤◌, ◌<◌, ◌≡◌, refl, List, [], ◌++◌, length, take, drop}
+use Rattle.std.specs.Prelude.{ℕ, ◌+◌, ◌-◌, ◌≤◌, ◌<◌, ◌≡◌, refl, List, [], ◌++◌, length, take, drop, Result, Ok, Err}
 use Rattle.std.proofs.Common.{ap, sym, ◌∙◌, append_assoc, append-nil, arith, le-leb, length-append, length-drop, drop_of_length-le, drop-drop, take_at, drop_at, take_all}
 use Rattle.std.proofs.lemmas.Bool.{lt-leb}
 use Rattle.refusal.specs.declared.Refusal.{Refusal}
 use Rattle.refusal.specs.declared.Refusal.TheVariants.{Room}
 use Rattle.byte_io.specs.Write.{refuse, emit, Did, Wrote}
-use Rattle.byte_io.specs.declared.WriteResult.{WriteResult}
-use Rattle.byte_io.specs.declared.WriteResult.TheVariants as wv
 
 -- ---- bytes in front of a destination
 module _ {p d d' : List ℕ} {n : ℕ} (w : Wrote p d n d') (fits : length p ≤ length d) where
@@ -44,30 +42,30 @@ pub wrote_none : (d : List ℕ) → Wrote [] d 0 d
 wrote_none d = record { many = refl; holds = refl }
 
 -- ---- from within to without
-pub did-refuse : (k : Refusal) (d : List ℕ) → Did (refuse k) d (wv.Refused k) d
+pub did-refuse : (k : Refusal) (d : List ℕ) → Did (refuse k) d (Err k) d
 did-refuse k d = record { says = refl; holds = refl }
 
-pub did-emit : {p d d' : List ℕ} {n : ℕ} → length p ≤ length d → Wrote p d n d' → Did (emit p) d (wv.Length n) d'
+pub did-emit : {p d d' : List ℕ} {n : ℕ} → length p ≤ length d → Wrote p d n d' → Did (emit p) d (Ok n) d'
 did-emit {p} {d} h w =
     let fits = le-leb (length p) (length d) h in
-    record { says = simp fits (ap wv.Length w.many); holds = simp fits w.holds }
+    record { says = simp fits (ap Ok w.many); holds = simp fits w.holds }
 
-pub did-room : (p d : List ℕ) → length d < length p → Did (emit p) d (wv.Refused Room) d
+pub did-room : (p d : List ℕ) → length d < length p → Did (emit p) d (Err Room) d
 did-room p d h = record { says = simp (lt-leb (length p) (length d) h); holds = simp (lt-leb (length p) (length d) h) }
 
 -- what a caller that knows of the room learns
-pub did-kept : (p d : List ℕ) (r : WriteResult) (d' : List ℕ) → length p ≤ length d → Did (emit p) d r d' → Wrote p d (length p) d'
+pub did-kept : (p d : List ℕ) (r : Result ℕ Refusal) (d' : List ℕ) → length p ≤ length d → Did (emit p) d r d' → Wrote p d (length p) d'
 did-kept p d r d' h w = record { many = refl; holds = simp (le-leb (length p) (length d) h) at w.holds }
 
-pub did-done : (p d : List ℕ) (r : WriteResult) (d' : List ℕ) (n : ℕ) → length p ≤ length d → Did (emit p) d r d' → r ≡ wv.Length n
+pub did-done : (p d : List ℕ) (r : Result ℕ Refusal) (d' : List ℕ) (n : ℕ) → length p ≤ length d → Did (emit p) d r d' → r ≡ Ok n
     → Wrote p d n d'
 did-done p d r d' n h w e =
-    let f : r ≡ wv.Length (length p) = simp (le-leb (length p) (length d) h) at w.says in
+    let f : r ≡ Ok (length p) = simp (le-leb (length p) (length d) h) at w.says in
     wrote_as n (cc) (did-kept p d r d' h w)
 
-pub did_never : (p d : List ℕ) (r : WriteResult) (d' : List ℕ) (k : Refusal) → length p ≤ length d → Did (emit p) d r d' → r ≡ wv.Refused k
+pub did_never : (p d : List ℕ) (r : Result ℕ Refusal) (d' : List ℕ) (k : Refusal) → length p ≤ length d → Did (emit p) d r d' → r ≡ Err k
     → ⊥
 did_never p d r d' k h w e =
-    let f : r ≡ wv.Length (length p) = simp (le-leb (length p) (length d) h) at w.says in
+    let f : r ≡ Ok (length p) = simp (le-leb (length p) (length d) h) at w.says in
     let z : ◌≡◌ {A = ℕ} 0 1 = cc in
     omega arith

@@ -208,6 +208,10 @@ module _ (laws : ItemLaws) (s : List ℕ) (at left : ℕ) (v : Member) (e : Memb
       go (mv.Bytes p a) w no-string = absurd (no-string p a refl)
       go mv.Neither w no-string = let (p, ps, f) = members-some left (drop at s) some in rw f (none p ps (rw f at w))
 
+-- ---- where n are left, as the code counts them down
+pub counted : (s : List ℕ) (at n : ℕ) (v : Member) → 0 < n → MemberSpec s at (n - 1 + 1) v → MemberSpec s at n v
+counted s at n v h e = let z : n - 1 + 1 ≡ n = omega arith in rw z at e
+
 -- ---- nothing is left to ask
 pub made-end : (s : List ℕ) (at left : ℕ) → left ≡ 0 → at ≤ length s → eqb at (length s) ≡ made s at left
 unfolding strings_in same

@@ -1,5 +1,5 @@
 -- Keys asked one after the other with one table of flags: what the loop keeps, and what the answer says of one set and of two.
-use Prim.Native.Nat.{ℕ, ◌+◌, ◌<◌, ◌≤◌}
+use Prim.Native.Nat.{ℕ, ◌+◌, ◌-◌, ◌*◌, ◌<◌, ◌≤◌}
 use mathlib.Core.Path.{◌≡◌, refl, ap, sym, ◌∙◌}
 use mathlib.Core.Bool.{Bool, true, false, not, ◌&&◌, ◌||◌, and-false}
 use mathlib.Core.List.{List, [], ◌∷◌, ◌++◌}
@@ -9,7 +9,7 @@ use lib.Dec.{leb, eqb}
 use lib.ListN.{length, take, drop, get_or, replicate, length-drop}
 use lib.Seq.{drop-drop, get_or-drop, length-take-le}
 use Rattle.image.specs.Part.{gets}
-use Rattle.image.specs.PartLemmas.{take-gets, length-gets, one-digit}
+use Rattle.image.specs.PartLemmas.{next-gets, take-gets, length-gets, one-digit}
 use Rattle.key_image.specs.Key.{key_part, key_set_part, counted_set_part}
 use Rattle.link_key.specs.Key.{has_no_additional_info}
 use Rattle.link_key.specs.declared.Key.{Key}
@@ -38,6 +38,16 @@ module _ (allowed : Bool) (seen₀ seen : List ℕ) (ks₀ ks rest : List Key) (
   pub asked-on : (allowed || has_no_additional_info k) ≡ true → joins seen k ≡ true → {seen' : List ℕ} → seen' ≡ noted seen k
       → Asked allowed seen₀ ks₀ seen' rest
   asked-on e f g = record { told = w.told ∙ rw (n, e, f, g); after = w.after ∙ rw (n, g) }
+
+-- the keys from the one at index i on
+pub gets-from : (s : List ℕ) (at count i : ℕ) → i < count
+    → gets key_part (count - i) (drop (at + 27 * i) s)
+    ≡ key_part.get (drop (at + 27 * i) s) ∷ gets key_part (count - (i + 1)) (drop (at + 27 * (i + 1)) s)
+gets-from s at count i h =
+    let e : count - i - 1 ≡ count - (i + 1) = omega arith in
+    let f : at + 27 * i + 27 ≡ at + 27 * (i + 1) = omega arith in
+    next-gets key_part s (at + 27 * i) (count - i) (omega arith)
+    ∙ rw (e, f)
 
 pub all_asked : (allowed : Bool) (seen₀ seen : List ℕ) (ks₀ ks : List Key) → ks ≡ [] → Asked allowed seen₀ ks₀ seen ks
     → (true ≡ passes allowed seen₀ ks₀) × (seen ≡ all_noted seen₀ ks₀)

@@ -4,7 +4,6 @@
 
 mod flags;
 mod list;
-mod octet;
 mod sets;
 mod state;
 

@@ -3,17 +3,13 @@ ghost use Rattle.std.specs.Prelude.{◌≡◌, ◌≤◌, get_or};
 ghost use Rattle.cojp.specs.Lists.{strings_in, kept};
 ghost use Rattle.capi_judge.specs.Kept.{list_in, short_at};
 
-use crate::octet::as_index;
 use cojp::{Member, member_at};
 
 // The byte at an offset; past the end zero.
 fn byte_or_zero(s: &[u8], at: usize) -> usize
     ensures { result ≡ get_or s.now at 0 }
 {
-    if at < s.len() {
-        return as_index(s[at]);
-    }
-    0
+    s.get(at).copied().map_or(0, usize::from)
 }
 
 // Whether the head at an offset is the shortest one of a byte string of so many bytes.
@@ -25,10 +21,7 @@ fn is_short_at(s: &[u8], at: usize, n: usize) -> bool
     if n < 24 {
         return first == 64 + n;
     }
-    if first != 88 {
-        return false;
-    }
-    byte_or_zero(s, at + 1) == n
+    first == 88 && byte_or_zero(s, at + 1) == n
 }
 
 // Whether the bytes are `count` byte strings with shortest heads, and nothing after them.
@@ -40,19 +33,14 @@ pub(crate) fn is_blacklist_in(s: &[u8], count: u64) -> bool
         return false;
     }
     let mut at: usize = 0;
-    let mut left = count;
-    while 0 < left {
-        let m = member_at(s, at, left);
-        match m {
-            Member::Bytes { start, len: n } => {
-                if !is_short_at(s, at, n) {
-                    return false;
-                }
-                at = start + n;
-                left -= 1;
-            }
-            _ => return false,
+    for left in (0..count).rev() {
+        let Member::Bytes { start, len } = member_at(s, at, left + 1) else {
+            return false;
+        };
+        if !is_short_at(s, at, len) {
+            return false;
         }
+        at = start + len;
     }
     at == s.len()
 }

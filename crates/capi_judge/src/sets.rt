@@ -9,7 +9,6 @@ ghost use Rattle.node_key_sets.specs.Sets.{two_sets, valid_as};
 ghost use Rattle.capi_judge.specs.Judge.{passes, all_noted};
 
 use crate::flags::set_flag;
-use crate::octet::as_index;
 use link_key::set::seen::{flags_law, none_seen};
 
 // Whether the key at an offset has no additional information, or may have it.
@@ -43,17 +42,14 @@ fn keys_join(src: &[u8], at: usize, count: usize, allowed: bool, seen: &mut [u32
     ensures after { result ≡ true
         → seen.new ≡ all_noted seen.old (gets key_part count (drop at src.now)) }
 {
-    let mut left = count;
-    let mut k = at;
-    while 0 < left {
+    for i in 0..count {
+        let k = at + 27 * i;
         if !info_allowed(src, k, allowed) {
             return false;
         }
         if !key_joins(src, k, seen) {
             return false;
         }
-        k += 27;
-        left -= 1;
     }
     true
 }
@@ -66,7 +62,7 @@ fn set_joins(src: &[u8], at: usize, allowed: bool, seen: &mut [u32; 8]) -> bool
     ensures after { result ≡ true
         → seen.new ≡ all_noted seen.old (keys_of (key_set_part.get (drop at src.now))) }
 {
-    let count = as_index(src[at]);
+    let count = usize::from(src[at]);
     if 8 < count {
         return false;
     }

@@ -10,7 +10,6 @@ ghost use Rattle.node_image.specs.Version.{version_part};
 ghost use Rattle.protocol_version.specs.Version.{allows_additional_info};
 
 use crate::list::is_blacklist_in;
-use crate::octet::{as_count, as_index};
 use crate::sets::sets_valid_in;
 use node_image::{attempt_at, held_address_at, held_octets_at, is_node, version_at};
 use node_parameters::error_reports::error_reports_valid;
@@ -42,8 +41,8 @@ fn published_valid(s: &[u8]) -> bool
     if !bool_at(s, 602) {
         return true;
     }
-    let count = as_count(s[603]);
-    let len = as_index(s[604]);
+    let count = u64::from(s[603]);
+    let len = usize::from(s[604]);
     if 253 < len {
         return false;
     }

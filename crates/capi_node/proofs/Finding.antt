@@ -1,10 +1,14 @@
 -- A key is looked for one after the other: from each key on the search has the answer that it has from the first.
-use Prim.Native.Nat.{ℕ, ◌+◌, ◌-◌, ◌<◌, ◌≤◌}
-use mathlib.Core.Bool.{Bool, true, false, cond}
-use mathlib.Core.List.{List}
+use Prim.Native.Nat.{ℕ, ◌+◌, ◌-◌, ◌*◌, ◌<◌, ◌≤◌, min}
+use mathlib.Core.Bool.{true, false, cond}
+use mathlib.Core.List.{List, ◌∷◌}
 use mathlib.Core.Option.{Option, none, some}
+use Rattle.std.specs.Option.{is_some}
+use Rattle.std.specs.declared.option.Option.{Option as Found}
+use Rattle.std.specs.declared.option.Option.TheVariants.{Some}
 use mathlib.Core.Path.{◌≡◌, refl, ap, sym, ◌∙◌}
 use native.Mathlib.Omega.{arith}
+use native.Mathlib.Decide.{dec_le}
 use borrow.Author.Tests.{eq-eqb, ne_eqb, le-leb, lt-leb}
 use lib.Dec.{eqb}
 use lib.ListN.{length, take, drop, get_or, length-drop}
@@ -13,13 +17,12 @@ use Rattle.image.specs.Part.{gets}
 use Rattle.image.specs.PartLemmas.{next-gets, take-gets, length-gets, one-digit}
 use Rattle.key_image.specs.Key.{key_part, key_set_part}
 use Rattle.lemmas.specs.logic.Tests.{never}
-use Rattle.link_key.specs.Key.{found_key, covers}
-use Rattle.link_key.specs.declared.FoundKey.{FoundKey}
+use Rattle.link_key.specs.Key.{found_key}
 use Rattle.link_key.specs.declared.Key.{Key}
 use Rattle.link_key.specs.set.KeySet.{keys_of, find_key}
 use Rattle.node_image.specs.Node.{sets_part}
 use Rattle.node_image.specs.PlaceLemmas.{first-at}
-use Rattle.node_key_sets.specs.Frames.{with_key, without_key, or_else, held_key, receiving_key}
+use Rattle.node_key_sets.specs.Frames.{without_key, or_else, held_key, if_covers, if_found_covers, receiving_key}
 use Rattle.node_key_sets.specs.declared.sets.KeySets.{KeySets}
 use Rattle.refusal.specs.declared.Refusal.TheVariants as refusal
 
@@ -33,43 +36,56 @@ module _ (s : List ℕ) (at : ℕ) (long : at + 217 ≤ length s) (n : ℕ) (e :
   keys-so m f =
       ap (λ (k : ℕ). take k (key_set_part.get (drop at s)).keys) f ∙ ap (λ (t : List ℕ). take m (gets key_part 8 t)) (drop-drop 1 at s)
 
-  pub few-keys : n ≤ 8 → gets key_part n (drop (at + 1) s) ≡ keys_of (key_set_part.get (drop at s))
+  few-keys : n ≤ 8 → gets key_part n (drop (at + 1) s) ≡ keys_of (key_set_part.get (drop at s))
   few-keys h = sym (keys-so n count-so ∙ take-gets key_part n 8 (drop (at + 1) s) h)
 
-  pub all-keys : 8 < n → gets key_part 8 (drop (at + 1) s) ≡ keys_of (key_set_part.get (drop at s))
+  all-keys : 8 < n → gets key_part 8 (drop (at + 1) s) ≡ keys_of (key_set_part.get (drop at s))
   all-keys h =
       sym (keys-so n count-so
       ∙ take_all n (gets key_part 8 (drop (at + 1) s)) (omega (arith, length-gets key_part 8 (drop (at + 1) s))))
 
--- ---- the search; left keys stand from k on
-module _ (s : List ℕ) (identifier k left : ℕ) (ks : List Key)
-    (inv : find_key identifier ks ≡ find_key identifier (gets key_part left (drop k s)))
-  where
-    first_so : 0 < left → find_key identifier ks ≡ cond (eqb (get_or s k 0) identifier) (some (key_part.get (drop k s)))
-        (find_key identifier (gets key_part (left - 1) (drop (k + 27) s)))
-    first_so h =
-        inv ∙ ap (find_key identifier) (next-gets key_part s k left h)
-        ∙ ap (λ (n : ℕ). cond (eqb n identifier) (some (key_part.get (drop k s)))
-        (find_key identifier (gets key_part (left - 1) (drop (k + 27) s))))
-        (first-at s k)
+module _ (s : List ℕ) (at : ℕ) (long : at + 217 ≤ length s) (n : ℕ) (e : n ≡ get_or s at 0) where
+  counted : (b : ℕ) → Dec (n ≤ 8) → b ≡ min n 8 → gets key_part b (drop (at + 1) s) ≡ keys_of (key_set_part.get (drop at s))
+  counted b (yes h) f = let z : b ≡ n = omega arith in rw z (few-keys s at long n e h)
+  counted b (no h) f = let z : b ≡ 8 = omega arith in rw z (all-keys s at long n e (omega arith))
 
-    pub found_here : {key : Key} → 0 < left → get_or s k 0 ≡ identifier → key ≡ key_part.get (drop k s)
-        → ◌≡◌ {A = FoundKey} (record { found = true; key = key }) (found_key (find_key identifier ks))
-    found_here h e f = rw (first_so h, eq-eqb (get_or s k 0) identifier e, f)
+  pub keys-counted : {b : ℕ} → b ≡ min n 8 → gets key_part b (drop (at + 1) s) ≡ keys_of (key_set_part.get (drop at s))
+  keys-counted {b} f = counted b (dec_le n 8) f
 
-    pub found-further : 0 < left → ¬ (get_or s k 0 ≡ identifier)
-        → find_key identifier ks ≡ find_key identifier (gets key_part (left - 1) (drop (k + 27) s))
-    found-further h e = rw (first_so h, ne_eqb (get_or s k 0) identifier e)
+-- ---- the search: n keys stand from `at` on
+-- the keys from the one at index i on
+pub gets-from : (s : List ℕ) (at n i : ℕ) → i < n
+    → gets key_part (n - i) (drop (at + 27 * i) s)
+    ≡ key_part.get (drop (at + 27 * i) s) ∷ gets key_part (n - (i + 1)) (drop (at + 27 * (i + 1)) s)
+gets-from s at n i h =
+    let e : n - i - 1 ≡ n - (i + 1) = omega arith in
+    let f : at + 27 * i + 27 ≡ at + 27 * (i + 1) = omega arith in
+    next-gets key_part s (at + 27 * i) (n - i) (omega arith) ∙ rw (e, f)
 
-    pub found_nowhere : {r : FoundKey} → left ≡ 0 → r ≡ found_key none → r ≡ found_key (find_key identifier ks)
-    found_nowhere z f = f ∙ sym (ap found_key (inv ∙ ap (λ (m : ℕ). find_key identifier (gets key_part m (drop k s))) z))
+module _ (s : List ℕ) (identifier at n i : ℕ) (ks : List Key) (h : i < n)
+    (inv : find_key identifier ks ≡ find_key identifier (gets key_part (n - i) (drop (at + 27 * i) s))) where
+  abbrev next : Option Key
+  next = find_key identifier (gets key_part (n - (i + 1)) (drop (at + 27 * (i + 1)) s))
+
+  first-so : find_key identifier ks
+      ≡ cond (eqb (get_or s (at + 27 * i) 0) identifier) (some (key_part.get (drop (at + 27 * i) s))) next
+  first-so =
+      inv ∙ ap (find_key identifier) (gets-from s at n i h)
+      ∙ ap (λ (m : ℕ). cond (eqb m identifier) (some (key_part.get (drop (at + 27 * i) s))) next) (first-at s (at + 27 * i))
+
+  pub found-here : {key : Key} → get_or s (at + 27 * i) 0 ≡ identifier → key ≡ key_part.get (drop (at + 27 * i) s)
+      → Some key ≡ found_key (find_key identifier ks)
+  found-here e f = rw (first-so, eq-eqb (get_or s (at + 27 * i) 0) identifier e, f)
+
+  pub found-further : ¬ (get_or s (at + 27 * i) 0 ≡ identifier) → find_key identifier ks ≡ next
+  found-further e = rw (first-so, ne_eqb (get_or s (at + 27 * i) 0) identifier e)
 
 -- ---- active, or else pending
-held_first : (o p : Option Key) → (found_key o).found ≡ true → found_key o ≡ found_key (or_else o p)
-held_first none p e = never false e refl
-held_first (some k) p e = refl
+held-first : (o p : Option Key) → is_some (found_key o) ≡ true → found_key o ≡ found_key (or_else o p)
+held-first none p e = never false e refl
+held-first (some k) p e = refl
 
-held-second : (o p : Option Key) → (found_key o).found ≡ false → found_key p ≡ found_key (or_else o p)
+held-second : (o p : Option Key) → is_some (found_key o) ≡ false → found_key p ≡ found_key (or_else o p)
 held-second none p e = refl
 held-second (some k) p e = never true refl e
 
@@ -80,16 +96,20 @@ module _ (s : List ℕ) (identifier : ℕ) where
   abbrev search-at : ℕ → Option Key
   search-at at = find_key identifier (keys_of (key_set_part.get (drop at s)))
 
-  module _ {x : FoundKey} (e : x ≡ found_key (search-at 29)) where
-    pub held-active : x.found ≡ true → x ≡ found_key (held_key sets identifier)
-    held-active f = e ∙ held_first (search-at 29) _ (sym (ap (λ (y : FoundKey). y.found) e) ∙ f)
+  module _ {x : Found Key} (e : x ≡ found_key (search-at 29)) where
+    pub held-active : is_some x ≡ true → x ≡ found_key (held_key sets identifier)
+    held-active f = e ∙ held-first (search-at 29) _ (sym (ap is_some e) ∙ f)
 
-    pub held-pending : {y : FoundKey} → x.found ≡ false → y ≡ found_key (search-at 278) → y ≡ found_key (held_key sets identifier)
+    pub held-pending : {y : Found Key} → is_some x ≡ false → y ≡ found_key (search-at 278) → y ≡ found_key (held_key sets identifier)
     held-pending f g =
         g ∙ ap (λ (t : List ℕ). found_key (find_key identifier (keys_of (key_set_part.get t)))) (sym (drop-drop 249 29 s))
-        ∙ held-second (search-at 29) _ (sym (ap (λ (y : FoundKey). y.found) e) ∙ f)
+        ∙ held-second (search-at 29) _ (sym (ap is_some e) ∙ f)
 
 -- ---- the answer to a frame
+covers-so : (type : ℕ) (o : Option Key) → if_found_covers type (found_key o) ≡ if_covers type o
+covers-so type none = refl
+covers-so type (some k) = refl
+
 module _ (sets : KeySets) (type identifier : ℕ) where
   pub other-type : 1 < type → without_key refusal.Range ≡ receiving_key sets type identifier
   unfolding receiving_key
@@ -100,30 +120,9 @@ module _ (sets : KeySets) (type identifier : ℕ) where
     unfolding receiving_key
     no-identifier z = rw (le-leb type 1 known, eq-eqb identifier 0 z)
 
-    module _ (some-identifier : ¬ (identifier ≡ 0)) where
-      unheld : (o : Option Key) → held_key sets identifier ≡ o → (found_key o).found ≡ false
-          → without_key refusal.Silent ≡ receiving_key sets type identifier
-      unfolding receiving_key
-      unheld none f e = rw (le-leb type 1 known, ne_eqb identifier 0 some-identifier, f)
-      unheld (some k) f e = never true refl e
-
-      answered : (o : Option Key) (b : Bool) → held_key sets identifier ≡ o → (found_key o).found ≡ true → covers (found_key o).key type ≡ b
-          → receiving_key sets type identifier ≡ cond b (with_key (found_key o).key) (without_key refusal.Silent)
-      unfolding receiving_key
-      answered none b f e g = never false e refl
-      answered (some k) b f e g = rw (le-leb type 1 known, ne_eqb identifier 0 some-identifier, f, g)
-
-      module _ {x : FoundKey} (h : x ≡ found_key (held_key sets identifier)) where
-        pub not-held : x.found ≡ false → without_key refusal.Silent ≡ receiving_key sets type identifier
-        not-held e = unheld (held_key sets identifier) refl (sym (ap (λ (y : FoundKey). y.found) h) ∙ e)
-
-        module _ (e : x.found ≡ true) where
-          answer-by : (b : Bool) → covers x.key type ≡ b
-              → receiving_key sets type identifier ≡ cond b (with_key x.key) (without_key refusal.Silent)
-          answer-by b g = rw h (answered (held_key sets identifier) b refl (sym (ap (λ (y : FoundKey). y.found) h) ∙ e) (rw h at g))
-
-          pub not-covering : covers x.key type ≡ false → without_key refusal.Silent ≡ receiving_key sets type identifier
-          not-covering g = sym (answer-by false g)
-
-          pub with-key : covers x.key type ≡ true → with_key x.key ≡ receiving_key sets type identifier
-          with-key g = sym (answer-by true g)
+    pub by-held : ¬ (identifier ≡ 0) → {x : Found Key} → x ≡ found_key (held_key sets identifier)
+        → if_found_covers type x ≡ receiving_key sets type identifier
+    unfolding receiving_key
+    by-held some-identifier e =
+        rw (le-leb type 1 known, ne_eqb identifier 0 some-identifier)
+        (ap (if_found_covers type) e ∙ covers-so type (held_key sets identifier))

@@ -1,5 +1,7 @@
 -- RANGE stands where there is no image, and where its node is not valid; else the node's own call decides, on the parts read at their
 -- places.
+use Rattle.std.specs.Prelude.{Result, Ok, Err}
+use Rattle.refusal.specs.declared.Refusal.{Refusal}
 use Prim.Native.Nat.{ℕ, ◌<◌, ◌≤◌}
 use mathlib.Core.Bool.{Bool, true, false, cond, ◌&&◌}
 use mathlib.Core.List.{List}
@@ -21,7 +23,6 @@ use Rattle.node_attempt.specs.Poll as attempt
 use Rattle.node_attempt.specs.Poll.{due_verdict}
 use Rattle.node_attempt.specs.declared.attempt.Attempt.{Attempt}
 use Rattle.node_attempt.specs.declared.poll.AttemptResult.{AttemptResult}
-use Rattle.node_attempt.specs.declared.poll.Due.TheVariants as due
 use Rattle.node_image.specs.Attempt.{attempt_part}
 use Rattle.node_image.specs.Held.{held_address_part}
 use Rattle.node_image.specs.Node.{node_image}
@@ -29,7 +30,7 @@ use Rattle.node_image.specs.NodeLemmas.{node_at_lem}
 use Rattle.node_image.specs.Version.{version_part}
 use Rattle.node_parameters.specs.Lease.{holds_at}
 use Rattle.refusal.specs.declared.Refusal.TheVariants as refusal
-use Rattle.refusal.specs.declared.Verdict.{Verdict}
+use Rattle.refusal.specs.Verdict.{Verdict}
 use Rattle.capi_node.specs.Calls.{node_in, due_in, holds_in}
 
 pub out_of_range : {A B : Type 0} (f : A → B) (a b : Bool) (x y : A) → (a && b) ≡ false → f y ≡ cond a (f (cond b x y)) (f y)
@@ -52,11 +53,11 @@ module _ (s : List ℕ) where
 
   -- ---- polling
   module _ (time : ℕ) where
-    pub poll-none : judged ≡ false → due.Refused refusal.Range ≡ due_in s time
+    pub poll-none : judged ≡ false → Err refusal.Range ≡ due_in s time
     unfolding poll
     poll-none e =
         out_of_range (λ (x : PollResult). x.due) (is_image node_image s) (valid (node_in s)) _
-        (polled (due.Refused refusal.Range) (node_in s)) e
+        (polled (Err refusal.Range) (node_in s)) e
 
     module _ (e : judged ≡ true) (x : AttemptResult) (a : Attempt) (here : a ≡ attempt_part.get (drop 3 s))
         (says : x ≡ attempt.poll a time) where
@@ -73,15 +74,15 @@ module _ (s : List ℕ) where
       poll-node f g = rw polled-so (g ∙ ap (λ (v : Verdict). on_accept v s (node_image.put (attempting (node_in s) x.attempt))) f)
 
     -- ---- the address
-    pub holds-none : judged ≡ false → lease.Refused refusal.Range ≡ holds_in s time
+    pub holds-none : judged ≡ false → Err refusal.Range ≡ holds_in s time
     unfolding holds
-    holds-none e = out_of_range (λ (x : LeaseStatus). x) (is_image node_image s) (valid (node_in s)) _ (lease.Refused refusal.Range) e
+    holds-none e = out_of_range (λ (x : Result LeaseStatus Refusal). x) (is_image node_image s) (valid (node_in s)) _ (Err refusal.Range) e
 
     module _ (e : judged ≡ true) (a : Attempt) (here : a ≡ attempt_part.get (drop 3 s)) where
       clock-so : a.clock ≡ (node_in s).attempt.clock
       clock-so = ap (λ (b : Attempt). b.clock) (here ∙ attempt-so)
 
-      pub holds-early : time < a.clock → lease.Refused refusal.Clock ≡ holds_in s time
+      pub holds-early : time < a.clock → Err refusal.Clock ≡ holds_in s time
       unfolding holds
       holds-early h = rw (image-so e, valid-so e, ← clock-so, lt-leb a.clock time h)
 
@@ -90,10 +91,10 @@ module _ (s : List ℕ) where
           held-so : b ≡ holds_at (node_in s).version (node_in s).address time
           held-so = f ∙ ap (λ (m : Node). holds_at m.version m.address time) (node_at_lem s)
 
-          pub holds-valid : b ≡ true → lease.Valid ≡ holds_in s time
+          pub holds-valid : b ≡ true → Ok lease.Valid ≡ holds_in s time
           unfolding holds
           holds-valid g = rw (image-so e, valid-so e, ← clock-so, le-leb a.clock time h, ← held-so, g)
 
-          pub holds-expired : b ≡ false → lease.Expired ≡ holds_in s time
+          pub holds-expired : b ≡ false → Ok lease.Expired ≡ holds_in s time
           unfolding holds
           holds-expired g = rw (image-so e, valid-so e, ← clock-so, le-leb a.clock time h, ← held-so, g)

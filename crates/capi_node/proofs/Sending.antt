@@ -1,10 +1,12 @@
 -- What is sent is the slot at the index that was found; what is received and what a report does is the key sets' own answer.
+use Rattle.std.specs.Prelude.{Result, Ok, Err}
+use Rattle.refusal.specs.declared.Refusal.{Refusal}
 use Prim.Native.Nat.{ℕ, ◌+◌, ◌<◌, ◌≤◌}
 use mathlib.Core.Bool.{Bool, true, false, cond, ◌&&◌}
 use mathlib.Core.List.{List}
-use mathlib.Core.Option.{none, some}
+use mathlib.Core.Option.{Option, none, some}
 use mathlib.Core.Path.{◌≡◌, refl, ap, sym, subst, ◌∙◌}
-use borrow.Author.Tests.{eq-eqb, ne_eqb, le-leb, lt-leb, lt-ltb, le-ltb}
+use borrow.Author.Tests.{eq-eqb, ne_eqb, le-leb, lt-leb, lt-ltb}
 use lib.ListN.{length, drop, set, replicate}
 use Rattle.image.specs.Effects.{on_accept}
 use Rattle.image.proofs.Lent.{hands-unfit, hands_none, hands-told}
@@ -24,7 +26,8 @@ use Rattle.node_image.specs.ChangeLemmas.{stands}
 use Rattle.node_image.specs.Node.{sets_part, node_image}
 use Rattle.node_image.specs.NodeLemmas.{node_at_lem}
 use Rattle.node_key_sets.specs.Frames as sets
-use Rattle.node_key_sets.specs.Frames.{Effect, with_key, without_key, switched, effect, receiving_key, verified_in, change_verdict, has_switched}
+use Rattle.node_key_sets.specs.Frames.{Effect, with_key, without_key, switched, effect, receiving_key}
+use Rattle.node_key_sets.specs.Frames.{verified_in, change_verdict, has_switched}
 use Rattle.node_key_sets.specs.declared.frames.Change.{Change}
 use Rattle.node_key_sets.specs.declared.frames.Change.TheVariants as change
 use Rattle.node_key_sets.specs.declared.frames.KeyAnswer.{KeyAnswer}
@@ -32,8 +35,21 @@ use Rattle.node_key_sets.specs.declared.sets.KeySets.{KeySets}
 use Rattle.refusal.specs.Verdict.{verdict_number}
 use Rattle.refusal.specs.declared.Refusal.TheVariants as refusal
 use Rattle.capi_node.specs.Calls.{node_in, change_in, ReceivesIn, SendsIn}
-use Rattle.capi_node.specs.Slots.{key_at, counter_at, slot_at}
+use Rattle.link_key_counters.specs.Counters.{Slot}
+use Rattle.std.specs.declared.option.Option.{Option as Index}
+use Rattle.std.specs.declared.option.Option.TheVariants.{None, Some}
+use Rattle.capi_node.specs.Slots.{key_at, counter_at, slot_at, slot_found}
 use Rattle.capi_node.proofs.Ranged.{out_of_range, judged, image-so, valid-so}
+
+-- no index was found
+pub none-found : (s : List ℕ) (r : Index ℕ) {o : Option Slot} → o ≡ slot_found s r → ((i : ℕ) → ¬ (r ≡ Some i)) → o ≡ none
+none-found s None e f = e
+none-found s (Some i) e f = absurd (f i refl)
+
+-- the set that was pending is not active
+pub not-switched : (c : Change) → ¬ (c ≡ change.Switched) → has_switched (Ok c) ≡ false
+not-switched change.Switched h = absurd (h refl)
+not-switched change.Kept h = refl
 
 module _ (s : List ℕ) where
   sets-so : sets_part.get (drop 29 s) ≡ (node_in s).sets
@@ -87,12 +103,11 @@ module _ (s : List ℕ) where
             sends (sent_by (node_in s) (sets.unsent refusal.Range (node_in s).sets)) h (image-so s e) (rw (valid-so s e, lt-leb type 1 g))
             refl refl zeros
 
-        pub send-silent : type ≤ 1 → (i : ℕ) → first_serving type (counted_set_part.get (drop 29 s)) ≡ slot_at s i → 8 ≤ i
-            → SendsIn type s w 14 s w'
+        pub send-silent : type ≤ 1 → first_serving type (counted_set_part.get (drop 29 s)) ≡ none → SendsIn type s w 14 s w'
         unfolding sending sets.sending take_counter
-        send-silent g i f l =
+        send-silent g f =
             let first : first_serving type (node_in s).sets.active ≡ none =
-            ap (λ (m : Node). first_serving type m.sets.active) (sym (node_at_lem s)) ∙ f ∙ rw (le-ltb i 8 l) in
+            ap (λ (m : Node). first_serving type m.sets.active) (sym (node_at_lem s)) ∙ f in
             sends (sent_by (node_in s) (sets.unsent refusal.Silent (node_in s).sets)) h (image-so s e)
             (rw (valid-so s e, le-leb type 1 g, first)) refl refl zeros
 
@@ -154,17 +169,17 @@ module _ (s : List ℕ) where
 
   -- ---- the verified report
   module _ (type identifier : ℕ) where
-    pub verified-none : judged s ≡ false → change.Refused refusal.Range ≡ change_in s type identifier
+    pub verified-none : judged s ≡ false → Err refusal.Range ≡ change_in s type identifier
     unfolding verified
     verified-none e =
         out_of_range (λ (x : VerifyResult). x.change) (is_image node_image s) (valid (node_in s)) _
-        (reported (change.Refused refusal.Range) (node_in s)) e
+        (reported (Err refusal.Range) (node_in s)) e
 
     reported-so : (n : Node) → valid n ≡ true → verified n type identifier ≡ reported_by n (verified_in n.sets type identifier)
     unfolding verified
     reported-so n v = rw v
 
-    module _ (e : judged s ≡ true) (r : Change)
+    module _ (e : judged s ≡ true) (r : Result Change Refusal)
         (f : verified_in (sets_part.get (drop 29 s)) type identifier
         ≡ effect r (cond (has_switched r) (switched (sets_part.get (drop 29 s))) (sets_part.get (drop 29 s)))) where
       abbrev after : KeySets → Effect
@@ -180,15 +195,15 @@ module _ (s : List ℕ) where
       pub verified-change : r ≡ change_in s type identifier
       verified-change = rw (image-so s e) (sym (ap (λ (x : VerifyResult). x.change) report-so))
 
-      switched-accepted : (c : Change) → has_switched c ≡ true → (x y : List ℕ) → y ≡ on_accept (change_verdict c) x y
-      switched-accepted (change.Refused k) h x y = never false h refl
-      switched-accepted change.Switched h x y = refl
-      switched-accepted change.Kept h x y = never false h refl
+      switched-accepted : (c : Result Change Refusal) → has_switched c ≡ true → (x y : List ℕ) → y ≡ on_accept (change_verdict c) x y
+      switched-accepted (Err k) h x y = never false h refl
+      switched-accepted (Ok change.Switched) h x y = refl
+      switched-accepted (Ok change.Kept) h x y = never false h refl
 
-      kept_either : (c : Change) (x y : List ℕ) → x ≡ y → x ≡ on_accept (change_verdict c) x y
-      kept_either (change.Refused k) x y h = refl
-      kept_either change.Switched x y h = h
-      kept_either change.Kept x y h = h
+      kept_either : (c : Result Change Refusal) (x y : List ℕ) → x ≡ y → x ≡ on_accept (change_verdict c) x y
+      kept_either (Err k) x y h = refl
+      kept_either (Ok change.Switched) x y h = h
+      kept_either (Ok change.Kept) x y h = h
 
       pub verified-switched : {s' : List ℕ} → has_switched r ≡ true → s' ≡ node_image.put (keyed (node_in s) (switched (node_in s).sets))
           → s' ≡ on_accept (change_verdict r) s (node_image.put (verified (node_in s) type identifier).node)

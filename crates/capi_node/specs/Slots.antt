@@ -1,5 +1,7 @@
 -- A key of the active set with its counter, where they stand in an image.
 use Rattle.std.specs.Prelude.{ℕ, ◌+◌, ◌*◌, cond, List, ltb, take, drop}
+use Rattle.std.specs.declared.option.Option.{Option as Index}
+use Rattle.std.specs.declared.option.Option.TheVariants.{None, Some}
 use Rattle.std.proofs.Math.Option.{Option, none, some}
 use Rattle.byte_io.specs.BigEndian.{big_endian}
 use Rattle.key_image.specs.Key.{key_part}
@@ -15,3 +17,8 @@ counter_at s i = big_endian (take 4 (drop (246 + 4 * i) s))
 -- the slot at one of the eight indices; none at any other
 abbrev pub slot_at : List ℕ → ℕ → Option Slot
 slot_at s i = cond (ltb i 8) (some (slot i (key_at s i) (counter_at s i))) none
+
+-- the slot at an index that was looked for
+abbrev pub slot_found : List ℕ → Index ℕ → Option Slot
+slot_found s None = none
+slot_found s (Some i) = slot_at s i

@@ -1,23 +1,16 @@
 // Keys looked for by their identifier.
-ghost use Rattle.std.proofs.Math.Option.{none};
 ghost use Rattle.std.specs.Prelude.{◌≡◌, ◌+◌, ◌≤◌, length, drop};
 ghost use Rattle.image.specs.Part.{gets};
 ghost use Rattle.key_image.specs.Key.{key_part, key_set_part};
 ghost use Rattle.link_key.specs.Key.{found_key};
 ghost use Rattle.link_key.specs.set.KeySet.{keys_of, find_key};
 ghost use Rattle.node_image.specs.Node.{sets_part};
-ghost use Rattle.node_key_sets.specs.Frames.{held_key, receiving_key};
+ghost use Rattle.node_key_sets.specs.Frames.{held_key, if_found_covers, receiving_key};
 
 use key_image::key_at;
-use link_key::{FoundKey, no_key};
+use link_key::Key;
 use node_key_sets::{KeyAnswer, without_key};
-use refusal::{Refusal, Verdict};
-
-fn as_index(b: u8) -> usize
-    ensures { result ≡ b }
-{
-    b as usize
-}
+use refusal::Refusal;
 
 // How many keys the set at an offset has: its count, and 8 where the count is over 8.
 pub(crate) fn key_count_at(s: &[u8], at: usize) -> usize
@@ -25,48 +18,46 @@ pub(crate) fn key_count_at(s: &[u8], at: usize) -> usize
     ensures few { result ≤ 8 }
     ensures keys { gets key_part result (drop (at + 1) s.now) ≡ keys_of (key_set_part.get (drop at s.now)) }
 {
-    let count = as_index(s[at]);
-    if 8 < count {
-        return 8;
-    }
-    count
-}
-
-fn not_found() -> FoundKey
-    ensures { result ≡ found_key none }
-{
-    let key = no_key();
-    FoundKey { found: false, key }
+    usize::from(s[at]).min(8)
 }
 
 // The key with the identifier in the set at an offset.
-pub(crate) fn find_at(s: &[u8], at: usize, identifier: u8) -> FoundKey
+pub(crate) fn find_at(s: &[u8], at: usize, identifier: u8) -> Option<Key>
     requires { at + 217 ≤ length s.now }
     ensures { result ≡ found_key (find_key identifier (keys_of (key_set_part.get (drop at s.now)))) }
 {
-    let mut left = key_count_at(s, at);
-    let mut k = at + 1;
-    while 0 < left {
+    for i in 0..key_count_at(s, at) {
+        let k = at + 1 + 27 * i;
         if s[k] == identifier {
-            let key = key_at(s, k);
-            return FoundKey { found: true, key };
+            return Some(key_at(s, k));
         }
-        k += 27;
-        left -= 1;
     }
-    not_found()
+    None
 }
 
 // The key with the identifier, active or else pending.
-fn held_key_in(s: &[u8], identifier: u8) -> FoundKey
+fn held_key_in(s: &[u8], identifier: u8) -> Option<Key>
     requires { length s.now ≡ 878 }
     ensures { result ≡ found_key (held_key (sets_part.get (drop 29 s.now)) identifier) }
 {
     let active = find_at(s, 29, identifier);
-    if active.found {
+    if active.is_some() {
         return active;
     }
     find_at(s, 278, identifier)
+}
+
+// The answer to a frame of this type, by the key that was found. SILENT.
+fn covering(held: Option<Key>, frame_type: u8) -> KeyAnswer
+    ensures { result ≡ if_found_covers frame_type held }
+{
+    match held {
+        Some(key) if key.covers(frame_type) => KeyAnswer {
+            verdict: Ok(()),
+            key,
+        },
+        _ => without_key(Refusal::Silent),
+    }
 }
 
 // The key to receive a frame of this type and key identifier with. RANGE: the type, identifier 0; SILENT.
@@ -80,16 +71,5 @@ pub(crate) fn receiving_key_in(s: &[u8], frame_type: u8, identifier: u8) -> KeyA
     if identifier == 0 {
         return without_key(Refusal::Range);
     }
-    let held = held_key_in(s, identifier);
-    if !held.found {
-        return without_key(Refusal::Silent);
-    }
-    let key = held.key;
-    if !key.covers(frame_type) {
-        return without_key(Refusal::Silent);
-    }
-    KeyAnswer {
-        verdict: Verdict::Accepted,
-        key,
-    }
+    covering(held_key_in(s, identifier), frame_type)
 }

@@ -16,9 +16,10 @@ use image::{RANGE, clear};
 use link_key::Key;
 use node_image::put_frame_key;
 use node_key_sets::Change;
-use refusal::{Refusal, Verdict};
+use refusal::Refusal;
 
 // The number of SILENT.
+// Kept: a number, since C is answered numbers and `SendsIn` states this one.
 const SILENT: u32 = 14;
 
 // The key to send a frame with, and its counter, which rises by one in the image. RANGE: the struct, no image, the node, the type; SILENT.
@@ -36,27 +37,26 @@ pub fn send_in(node: &mut [u8], frame_type: u8, key: &mut [u8]) -> u32
         clear(key);
         return RANGE;
     }
-    let index = serving_in(node, frame_type);
-    if 8 <= index {
+    let Some(index) = serving_in(node, frame_type) else {
         clear(key);
         return SILENT;
-    }
+    };
     take_counter_in(node, index, key);
     0
 }
 
 // A frame's key as a result.
-fn store_key(verdict: Verdict, key: Key, out: &mut [u8]) -> u32
+fn store_key(verdict: Result<(), Refusal>, key: Key, out: &mut [u8]) -> u32
     requires { length out.old ≡ 33 }
     ensures number { result ≡ verdict_number verdict }
     ensures out { out.new ≡ on_accept verdict (replicate 33 0) (frame_key_image.put (key, 0)) }
 {
     match verdict {
-        Verdict::Accepted => {
+        Ok(()) => {
             put_frame_key(out, key, 0);
             0
         }
-        Verdict::Refused(why) => {
+        Err(why) => {
             clear(out);
             why.number() as u32
         }
@@ -75,24 +75,22 @@ pub fn receive_in(node: &[u8], frame_type: u8, identifier: u8, key: &mut [u8]) -
         return RANGE;
     }
     let answer = receiving_key_in(node, frame_type, identifier);
-    let verdict = answer.verdict;
-    store_key(verdict, answer.key, key)
+    store_key(answer.verdict, answer.key, key)
 }
 
 // The radio reports a frame of this type and key identifier verified. Refused as `receive_in` is.
-pub fn verified_in(node: &mut [u8], frame_type: u8, identifier: u8) -> Change
+pub fn verified_in(node: &mut [u8], frame_type: u8, identifier: u8) -> Result<Change, Refusal>
     ensures change { result ≡ change_in node.old frame_type identifier }
     ensures node { node.new ≡ on_accept (change_verdict result) node.old
         (node_image.put (verified (node_in node.old) frame_type identifier).node) }
 {
     node_image::laws();
     if !is_valid_node(node) {
-        return Change::Refused(Refusal::Range);
+        return Err(Refusal::Range);
     }
-    let change = change_in(node, frame_type, identifier);
-    if !change.has_switched() {
-        return change;
+    let change = change_in(node, frame_type, identifier)?;
+    if let Change::Switched = change {
+        switch_in(node);
     }
-    switch_in(node);
-    change
+    Ok(change)
 }

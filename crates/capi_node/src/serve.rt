@@ -1,5 +1,5 @@
 // The key that a frame is sent with.
-ghost use Rattle.std.specs.Prelude.{true, ◌≡◌, ◌+◌, ◌<◌, length, drop, set};
+ghost use Rattle.std.specs.Prelude.{true, ◌≡◌, ◌+◌, ◌<◌, length, drop, set, IfSome};
 ghost use Rattle.image.specs.Part.{is_image};
 ghost use Rattle.key_image.specs.Key.{counted_set_part};
 ghost use Rattle.link_key_counters.specs.Counters.{slot, serves, first_serving};
@@ -7,7 +7,7 @@ ghost use Rattle.node_image.specs.Answers.{frame_key_image};
 ghost use Rattle.node_image.specs.Change.{recounted};
 ghost use Rattle.node_image.specs.Node.{node_image};
 ghost use Rattle.capi_node.specs.Calls.{node_in};
-ghost use Rattle.capi_node.specs.Slots.{key_at, counter_at, slot_at};
+ghost use Rattle.capi_node.specs.Slots.{key_at, counter_at, slot_found};
 
 use crate::find::key_count_at;
 use image::put_number;
@@ -26,20 +26,18 @@ fn serves_at(s: &[u8], index: usize, frame_type: u8) -> bool
     key_at(s, 30 + 27 * index).covers(frame_type)
 }
 
-// The index of the first active key that covers the frame type and is not used up; 8 where there is none.
-pub(crate) fn serving_in(s: &[u8], frame_type: u8) -> usize
+// The index of the first active key that covers the frame type and is not used up.
+pub(crate) fn serving_in(s: &[u8], frame_type: u8) -> Option<usize>
     requires { length s.now ≡ 878 }
-    ensures { first_serving frame_type (counted_set_part.get (drop 29 s.now)) ≡ slot_at s.now result }
+    ensures slot { first_serving frame_type (counted_set_part.get (drop 29 s.now)) ≡ slot_found s.now result }
+    ensures low { IfSome result (λ i. i < 8) }
 {
-    let n = key_count_at(s, 29);
-    let mut i: usize = 0;
-    while i < n {
+    for i in 0..key_count_at(s, 29) {
         if serves_at(s, i, frame_type) {
-            return i;
+            return Some(i);
         }
-        i += 1;
     }
-    8
+    None
 }
 
 // Hands back the active key at an index with its counter, which rises by one in the image.

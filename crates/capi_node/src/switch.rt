@@ -9,7 +9,7 @@ ghost use Rattle.capi_node.specs.Calls.{node_in};
 use crate::find::{find_at, receiving_key_in};
 use image::clear;
 use node_key_sets::Change;
-use refusal::Verdict;
+use refusal::Refusal;
 
 // Copies the bytes of the pending set over those of the active one.
 fn copy_pending(node: &mut [u8])
@@ -17,11 +17,7 @@ fn copy_pending(node: &mut [u8])
     ensures { node.new
         ≡ take 29 node.old ++ (take 249 (drop 278 node.old) ++ drop 278 node.old) }
 {
-    let mut i: usize = 0;
-    while i < 249 {
-        node[29 + i] = node[278 + i];
-        i += 1;
-    }
+    node.copy_within(278..527, 29);
 }
 
 // The pending set becomes active, and none is pending.
@@ -37,22 +33,15 @@ pub(crate) fn switch_in(node: &mut [u8])
 }
 
 // What a verified frame of this type and key identifier does to the key sets. Refused as `receiving_key_in` is.
-pub(crate) fn change_in(s: &[u8], frame_type: u8, identifier: u8) -> Change
+pub(crate) fn change_in(s: &[u8], frame_type: u8, identifier: u8) -> Result<Change, Refusal>
     requires { length s.now ≡ 878 }
     ensures { verified_in (sets_part.get (drop 29 s.now)) frame_type identifier
         ≡ effect result (cond (has_switched result) (switched (sets_part.get (drop 29 s.now))) (sets_part.get (drop 29 s.now))) }
 {
     link_key::set::laws();
-    let answer = receiving_key_in(s, frame_type, identifier);
-    let verdict = answer.verdict;
-    match verdict {
-        Verdict::Refused(why) => Change::Refused(why),
-        Verdict::Accepted => {
-            let active = find_at(s, 29, identifier);
-            if active.found {
-                return Change::Kept;
-            }
-            Change::Switched
-        }
+    receiving_key_in(s, frame_type, identifier).verdict?;
+    if find_at(s, 29, identifier).is_some() {
+        return Ok(Change::Kept);
     }
+    Ok(Change::Switched)
 }

@@ -1,5 +1,6 @@
 -- Between the equations of specs/Answer and what Places says:
 -- each answer is determined by the bytes that are left, and says where they begin.
+use Rattle.std.specs.Prelude.{Result, Ok, Err}
 use Prim.Native.Nat.{ℕ, ◌+◌, ◌-◌, ◌≤◌}
 use mathlib.Core.Path.{◌≡◌, refl, ap, sym, ◌∙◌}
 use mathlib.Core.Bool.{Bool, false}
@@ -15,10 +16,6 @@ use Rattle.cbor.specs.Strict.{head_by}
 use Rattle.cbor.specs.Answer.{head_answer, skip_answer, scan_answer, outcome_number, head_number, skip_number}
 use Rattle.cbor.specs.ReaderSpecs.{says_end, SkipSpec}
 use Rattle.cbor.specs.declared.head.Head.{Head}
-use Rattle.cbor.specs.declared.head.HeadResult.{HeadResult}
-use Rattle.cbor.specs.declared.head.HeadResult.TheVariants as hv
-use Rattle.cbor.specs.declared.item.SkipResult.{SkipResult}
-use Rattle.cbor.specs.declared.item.SkipResult.TheVariants as sv
 use Rattle.cbor.proofs.Places.{plainly, HeadAt, stop, rest, Passed}
 use Rattle.cbor.proofs.Tails.{Tail, head_tail, decode-tail, members-tail}
 
@@ -27,14 +24,14 @@ left_over : (s t : List ℕ) (p : ℕ) → p ≤ length s → drop p s ≡ t →
 left_over s t p i e = omega (arith, ap length e, length-drop p s)
 
 -- ---- to the equations
-pub skip-answer : {A : Type 0} (s : List ℕ) (o : Outcome A) (r : SkipResult) → Passed s o r → r ≡ skip_answer (length s) o
-skip-answer s (refused k) (sv.Refused j) q = let e : stop j ≡ stop k = q.says in cc
-skip-answer s (refused k) (sv.Next p) q = let e : rest (drop p s) ≡ stop k = q.says in cc
-skip-answer s (got a t) (sv.Refused j) q = let e : stop j ≡ rest t = q.says in cc
-skip-answer s (got a t) (sv.Next p) q =
+pub skip-answer : {A : Type 0} (s : List ℕ) (o : Outcome A) (r : Result ℕ Refusal) → Passed s o r → r ≡ skip_answer (length s) o
+skip-answer s (refused k) (Err j) q = let e : stop j ≡ stop k = q.says in cc
+skip-answer s (refused k) (Ok p) q = let e : rest (drop p s) ≡ stop k = q.says in cc
+skip-answer s (got a t) (Err j) q = let e : stop j ≡ rest t = q.says in cc
+skip-answer s (got a t) (Ok p) q =
     let e : rest (drop p s) ≡ rest t = q.says in
     let f : drop p s ≡ t = cc in
-    ap sv.Next (left_over s t p q.inside f)
+    ap Ok (left_over s t p q.inside f)
 
 pub tells-number : {A : Type 0} (n : ℕ) (o : Outcome A) → skip_number (skip_answer n o) ≡ outcome_number o
 tells-number n (refused k) = refl
@@ -48,13 +45,13 @@ pub scan-number : {A : Type 0} (o : Outcome A) → verdict_number (scan_answer o
 scan-number (refused k) = refl
 scan-number (got a t) = refl
 
-tells-end : {A : Type 0} (s : List ℕ) (o : Outcome A) (r : SkipResult) → Passed s o r → says_end s o r
-tells-end s (refused k) (sv.Refused j) q = refl
-tells-end s (refused k) (sv.Next p) q = let e : rest (drop p s) ≡ stop k = q.says in cc
-tells-end s (got a t) (sv.Refused j) q = let e : stop j ≡ rest t = q.says in cc
-tells-end s (got a t) (sv.Next p) q = let e : rest (drop p s) ≡ rest t = q.says in cc
+tells-end : {A : Type 0} (s : List ℕ) (o : Outcome A) (r : Result ℕ Refusal) → Passed s o r → says_end s o r
+tells-end s (refused k) (Err j) q = refl
+tells-end s (refused k) (Ok p) q = let e : rest (drop p s) ≡ stop k = q.says in cc
+tells-end s (got a t) (Err j) q = let e : stop j ≡ rest t = q.says in cc
+tells-end s (got a t) (Ok p) q = let e : rest (drop p s) ≡ rest t = q.says in cc
 
-pub skip-tells : {A : Type 0} (s : List ℕ) (o : Outcome A) (r : SkipResult) → Passed s o r → SkipSpec s o r
+pub skip-tells : {A : Type 0} (s : List ℕ) (o : Outcome A) (r : Result ℕ Refusal) → Passed s o r → SkipSpec s o r
 skip-tells s o r q =
     let e = skip-answer s o r q in
     record { is = e; number = rw e (tells-number (length s) o); end = tells-end s o r q }
@@ -72,7 +69,7 @@ place s t at k l h e =
 pub within : (s : List ℕ) (at k : ℕ) → 1 ≤ k → k ≤ length (drop at s) → at ≤ length s
 within s at k l h = omega (arith, length-drop at s)
 
-pub head-says : (b : Bool) (s : List ℕ) (at : ℕ) (r : HeadResult) → r ≡ head_answer (length s) (head_by b (drop at s)) → HeadAt b s at r
+pub head-says : (b : Bool) (s : List ℕ) (at : ℕ) (r : Result Head Refusal) → r ≡ head_answer (length s) (head_by b (drop at s)) → HeadAt b s at r
 head-says b s at r e = rw e (go (head_by b (drop at s)) (head_tail b (drop at s)) refl)
   where
     go : (o : Outcome Heading) → Tail (drop at s) 1 o → o ≡ head_by b (drop at s) → HeadAt b s at (head_answer (length s) o)
@@ -82,11 +79,11 @@ head-says b s at r e = rw e (go (head_by b (drop at s)) (head_tail b (drop at s)
         record { says = ap (got h) (sym q.0) ∙ e; inside = q.1 }
 
 -- the same in the arm of a head that was got
-pub got-says : (b : Bool) (s : List ℕ) (at : ℕ) (r : HeadResult) → r ≡ head_answer (length s) (head_by b (drop at s))
-    → (h : Head) → r ≡ hv.Got h → HeadAt b s at (hv.Got h)
+pub got-says : (b : Bool) (s : List ℕ) (at : ℕ) (r : Result Head Refusal) → r ≡ head_answer (length s) (head_by b (drop at s))
+    → (h : Head) → r ≡ Ok h → HeadAt b s at (Ok h)
 got-says b s at r e h g = rw g at (head-says b s at r e)
 
-passed : {A : Type 0} (s : List ℕ) (at j : ℕ) (o : Outcome A) (r : SkipResult) → at ≤ length s → Tail (drop at s) j o
+passed : {A : Type 0} (s : List ℕ) (at j : ℕ) (o : Outcome A) (r : Result ℕ Refusal) → at ≤ length s → Tail (drop at s) j o
     → r ≡ skip_answer (length s) o → Passed s o r
 passed s at j (refused k) r l t e = rw e (record { says = refl; inside = tt })
 passed s at j (got a u) r l t e =
@@ -97,19 +94,19 @@ module _ (b : Bool) (s : List ℕ) (at d : ℕ) where
   abbrev item : List ℕ → Outcome Item
   item = decode_by (head_by b) d
 
-  pub passed-item : (r : SkipResult) → r ≡ skip_answer (length s) (item (drop at s)) → Passed s (item (drop at s)) r
+  pub passed-item : (r : Result ℕ Refusal) → r ≡ skip_answer (length s) (item (drop at s)) → Passed s (item (drop at s)) r
   passed-item r e = go (item (drop at s)) (decode-tail b d (drop at s)) e
     where
       go : (o : Outcome Item) → Tail (drop at s) 1 o → r ≡ skip_answer (length s) o → Passed s o r
       go (refused k) t e = rw e (record { says = refl; inside = tt })
       go (got i u) t e = passed s at 1 (got i u) r (within s at t.0 t.1 t.2) t e
 
-  pub passed-members : (n : ℕ) (r : SkipResult) → at ≤ length s
+  pub passed-members : (n : ℕ) (r : Result ℕ Refusal) → at ≤ length s
       → r ≡ skip_answer (length s) (members item n (drop at s)) → Passed s (members item n (drop at s)) r
   passed-members n r l e = passed s at n (members item n (drop at s)) r l (members-tail item (decode-tail b d) n (drop at s)) e
 
 -- ---- which outcome there was
-pub passed-got : {A : Type 0} (s : List ℕ) (o : Outcome A) (p : ℕ) → Passed s o (sv.Next p) → (a : A) × (o ≡ got a (drop p s))
+pub passed-got : {A : Type 0} (s : List ℕ) (o : Outcome A) (p : ℕ) → Passed s o (Ok p) → (a : A) × (o ≡ got a (drop p s))
 passed-got s (refused k) p q =
     let e : rest (drop p s) ≡ stop k = q.says in
     absurd (let z : ◌≡◌ {A = ℕ} 0 1 = cc in omega arith)
@@ -118,17 +115,17 @@ passed-got s (got a t) p q =
     let f : t ≡ drop p s = cc in
     (a, ap (got a) f)
 
-pub passed-refused : {A : Type 0} (s : List ℕ) (o : Outcome A) (k : Refusal) → Passed s o (sv.Refused k) → o ≡ refused k
+pub passed-refused : {A : Type 0} (s : List ℕ) (o : Outcome A) (k : Refusal) → Passed s o (Err k) → o ≡ refused k
 passed-refused s (refused j) k q = let e : stop k ≡ stop j = q.says in cc
 passed-refused s (got a t) k q = let e : stop k ≡ rest t = q.says in cc
 
 -- ---- in the arm of a head that was refused, or got
-module _ (s : List ℕ) (at : ℕ) (r : HeadResult) (e : r ≡ head_answer (length s) (heading (drop at s))) where
-  pub head-refused : (k : Refusal) → r ≡ hv.Refused k → heading (drop at s) ≡ refused k
-  head-refused k g = let h : HeadAt false s at (hv.Refused k) = rw g at (head-says false s at r e) in sym h.says
+module _ (s : List ℕ) (at : ℕ) (r : Result Head Refusal) (e : r ≡ head_answer (length s) (heading (drop at s))) where
+  pub head-refused : (k : Refusal) → r ≡ Err k → heading (drop at s) ≡ refused k
+  head-refused k g = let h : HeadAt false s at (Err k) = rw g at (head-says false s at r e) in sym h.says
 
-  module _ (h : Head) (g : r ≡ hv.Got h) where
-    pub head_at : HeadAt false s at (hv.Got h)
+  module _ (h : Head) (g : r ≡ Ok h) where
+    pub head_at : HeadAt false s at (Ok h)
     head_at = rw g at (head-says false s at r e)
 
     pub head-got : heading (drop at s) ≡ got (plainly h) (drop h.next s)

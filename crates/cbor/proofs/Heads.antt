@@ -1,4 +1,5 @@
 -- What `read_head` and its parts answer, case by case of their returns.
+use Rattle.std.specs.Prelude.{Ok, Err}
 use Prim.Native.Nat.{ℕ, ◌+◌, ◌-◌, ◌/◌, ◌%◌, ◌^◌, ◌≤◌, ◌<◌}
 use mathlib.Core.Bool.{Bool, true, false, cond}
 use mathlib.Core.Path.{◌≡◌, refl, ap, ◌∙◌}
@@ -17,7 +18,6 @@ use Rattle.cbor.specs.Decode.{refused, got, and_then, next, argument, heading}
 use Rattle.cbor.specs.Answer.{head_answer, announced}
 use Rattle.cbor.specs.Encode.{info_of}
 use Rattle.cbor.specs.Strict.{is_short}
-use Rattle.cbor.specs.declared.head.HeadResult.TheVariants as hv
 
 pub next-got : (n : ℕ) (s : List ℕ) → n ≤ length s → next n s ≡ got (take n s) (drop n s)
 unfolding next
@@ -75,7 +75,7 @@ module _ (s : List ℕ) (k at end : ℕ) (e : end ≡ at + announced k) where
 
 -- ---- a head: its first byte, and its argument in the bytes from a place on
 module _ (s : List ℕ) (at : ℕ) where
-  pub head-none : length s ≤ at → hv.Refused Cut ≡ head_answer (length s) (heading (drop at s))
+  pub head-none : length s ≤ at → Err Cut ≡ head_answer (length s) (heading (drop at s))
   unfolding heading
   head-none h = rw (drop_of_length-le s h)
 
@@ -84,15 +84,15 @@ module _ (s : List ℕ) (at : ℕ) where
 
   module _ (b : ℕ) where
     pub head-no : (k : Refusal) → argument (b % 32) (drop at s) ≡ refused k
-        → hv.Refused k ≡ head_answer (length s) (heading (b ∷ drop at s))
+        → Err k ≡ head_answer (length s) (heading (b ∷ drop at s))
     unfolding heading
     head-no k e = rw e
 
     pub head-yes : (v p : ℕ) (f : Bool) → p ≤ length s → argument (b % 32) (drop at s) ≡ got v (drop p s) → f ≡ is_short (b / 32) (b % 32) v
-        → hv.Got (record { major = b / 32; info = b % 32; argument = v; short = f; next = p })
+        → Ok (record { major = b / 32; info = b % 32; argument = v; short = f; next = p })
         ≡ head_answer (length s) (heading (b ∷ drop at s))
     unfolding heading
     head-yes v p f i e w =
         let q : p ≡ length s - length (drop p s) = omega (arith, length-drop p s) in
         rw (e, w)
-        (ap (λ (x : ℕ). hv.Got (record { major = b / 32; info = b % 32; argument = v; short = is_short (b / 32) (b % 32) v; next = x })) q)
+        (ap (λ (x : ℕ). Ok (record { major = b / 32; info = b % 32; argument = v; short = is_short (b / 32) (b % 32) v; next = x })) q)

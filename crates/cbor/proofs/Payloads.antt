@@ -1,4 +1,5 @@
 -- What the answers of `open_map` say of the payload's outermost item.
+use Rattle.std.specs.Prelude.{Ok, Err, Some, None}
 use Prim.Native.Nat.{ℕ, zero, suc, ◌-◌, ◌≤◌}
 use mathlib.Core.Path.{◌≡◌, refl, ap, sym, subst, ◌∙◌}
 use mathlib.Core.Bool.{Bool, true, false, cond}
@@ -12,13 +13,12 @@ use Rattle.refusal.specs.declared.Refusal.{Refusal}
 use Rattle.cbor.specs.Item.{Item, Pairs, map_item, pair}
 use Rattle.cbor.specs.Decode.{Outcome, refused, got, and_then, next, heading, Heading, members}
 use Rattle.cbor.specs.Decode.{pairs, major_of, content, decode_by, decode, payload, payload_by, ended}
-use Rattle.cbor.specs.Answer.{map_answer, open_answer, outcome_number, opened_number}
+use Rattle.cbor.specs.Answer.{Opened, map_head, map_answer, open_answer, outcome_number, opened_number}
+use Rattle.cbor.specs.declared.item.MapHead.{MapHead}
 use Rattle.cbor.specs.ReaderSpecs.{PairsAt, says_opened, OpenSpec}
 use Rattle.cbor.specs.Strict.{head_by}
 use Rattle.cbor.specs.View.{if_map}
 use Rattle.refusal.specs.declared.Refusal.TheVariants.{Loose}
-use Rattle.cbor.specs.declared.item.OpenResult.{OpenResult}
-use Rattle.cbor.specs.declared.item.OpenResult.TheVariants as ov
 use Rattle.cbor.proofs.Answers.{place}
 use Rattle.cbor.proofs.Outcomes.{never, then-got, same-value, same_rest}
 use Rattle.cbor.proofs.Strict.{payload_same}
@@ -84,37 +84,39 @@ module _ (x a : ℕ) (l : List ℕ) (i : Item) (t : List ℕ) where
       rw (← same-value e) (special-all (if_map f r) r (λ n. refl) (λ w n. refl) x a)
 
 -- what the test of the major type decided
-by-test : (b : Bool) (n p : ℕ) (r : OpenResult) → r ≡ cond b (ov.Map n p) ov.NoMap
-    → ((b ≡ true) × (r ≡ ov.Map n p)) ⊎ ((b ≡ false) × (r ≡ ov.NoMap))
+by-test : (b : Bool) (n p : ℕ) (r : Opened) → r ≡ Ok (cond b (Some (map_head n p)) None)
+    → ((b ≡ true) × (r ≡ Ok (Some (map_head n p)))) ⊎ ((b ≡ false) × (r ≡ Ok None))
 by-test true n p r e = inl (refl, e)
 by-test false n p r e = inr (refl, e)
 
-same-refusal : {j k : Refusal} → ov.Refused j ≡ ov.Refused k → j ≡ k
+same-refusal : {j k : Refusal} → ◌≡◌ {A = Opened} (Err j) (Err k) → j ≡ k
 same-refusal e = cc
 
-same_map : {n m p q : ℕ} → ov.Map n p ≡ ov.Map m q → (n ≡ m) × (p ≡ q)
-same_map e = (cc, cc)
+same_map : {n m p q : ℕ} → ◌≡◌ {A = Opened} (Ok (Some (map_head n p))) (Ok (Some (map_head m q))) → (n ≡ m) × (p ≡ q)
+same_map {n} {m} {p} {q} e =
+    let f : map_head n p ≡ map_head m q = cc in
+    (ap (λ (x : MapHead). x.count) f, ap (λ (x : MapHead). x.start) f)
 
-module _ (s : List ℕ) (r : OpenResult) (e : r ≡ open_answer (length s) (payload s) (heading s)) where
-  plain-refused : (k : Refusal) → r ≡ ov.Refused k → payload s ≡ refused k
+module _ (s : List ℕ) (r : Opened) (e : r ≡ open_answer (length s) (payload s) (heading s)) where
+  plain-refused : (k : Refusal) → r ≡ Err k → payload s ≡ refused k
   plain-refused k g = go (payload s) refl (sym g ∙ e)
     where
-      go : (o : Outcome Item) → payload s ≡ o → ov.Refused k ≡ open_answer (length s) o (heading s) → o ≡ refused k
+      go : (o : Outcome Item) → payload s ≡ o → Err k ≡ open_answer (length s) o (heading s) → o ≡ refused k
       go (refused j) w f = cc
       go (got i t) w f =
           let (h, u, a, x, b) = headed s i t w in
-          let f' : ov.Refused k ≡ map_answer (length s) h u = rw a at f in
+          let f' : Err k ≡ Ok (map_answer (length s) h u) = rw a at f in
           absurd (⊎_elim (λ q. let z : ◌≡◌ {A = ℕ} 0 1 = cc in omega arith) (λ q. let z : ◌≡◌ {A = ℕ} 0 1 = cc in omega arith)
-          (by-test (eqb h.major 5) h.argument (length s - length u) (ov.Refused k) f'))
+          (by-test (eqb h.major 5) h.argument (length s - length u) (Err k) f'))
 
-  plain_map : (n p : ℕ) → r ≡ ov.Map n p → IsMap false s n p
+  plain_map : (n p : ℕ) → r ≡ Ok (Some (map_head n p)) → IsMap false s n p
   plain_map n p g = go (payload s) refl (sym g ∙ e)
     where
-      go : (o : Outcome Item) → payload s ≡ o → ov.Map n p ≡ open_answer (length s) o (heading s) → IsMap false s n p
+      go : (o : Outcome Item) → payload s ≡ o → Ok (Some (map_head n p)) ≡ open_answer (length s) o (heading s) → IsMap false s n p
       go (refused j) w f = absurd (let z : ◌≡◌ {A = ℕ} 0 1 = cc in omega arith)
       go (got i t) w f =
           let (h, u, a, x, b) = headed s i t w in
-          let f' : ov.Map n p ≡ map_answer (length s) h u = rw a at f in
+          let f' : Ok (Some (map_head n p)) ≡ Ok (map_answer (length s) h u) = rw a at f in
           ⊎_elim
           (λ q.
           let (n≡, p≡) = same_map q.1 in
@@ -129,16 +131,16 @@ module _ (s : List ℕ) (r : OpenResult) (e : r ≡ open_answer (length s) (payl
             each = rw (n≡, p≡, ← at) d;
           })
           (λ q. absurd (let z : ◌≡◌ {A = ℕ} 0 1 = cc in omega arith))
-          (by-test (eqb h.major 5) h.argument (length s - length u) (ov.Map n p) f')
+          (by-test (eqb h.major 5) h.argument (length s - length u) (Ok (Some (map_head n p))) f')
 
-  plain_other : r ≡ ov.NoMap → IsOther false s
+  plain_other : r ≡ Ok None → IsOther false s
   plain_other g = go (payload s) refl (sym g ∙ e)
     where
-      go : (o : Outcome Item) → payload s ≡ o → ov.NoMap ≡ open_answer (length s) o (heading s) → IsOther false s
+      go : (o : Outcome Item) → payload s ≡ o → Ok None ≡ open_answer (length s) o (heading s) → IsOther false s
       go (refused j) w f = absurd (let z : ◌≡◌ {A = ℕ} 0 1 = cc in omega arith)
       go (got i t) w f =
           let (h, u, a, x, b) = headed s i t w in
-          let f' : ov.NoMap ≡ map_answer (length s) h u = rw a at f in
+          let f' : Ok None ≡ Ok (map_answer (length s) h u) = rw a at f in
           ⊎_elim
           (λ q. absurd (let z : ◌≡◌ {A = ℕ} 0 1 = cc in omega arith))
           (λ q. record {
@@ -146,7 +148,7 @@ module _ (s : List ℕ) (r : OpenResult) (e : r ≡ open_answer (length s) (payl
             read = whole-payload s i t w;
             other = λ f y. no-map h.info h.argument u i x f y h.major (eqb-false h.major 5 q.0) b;
           })
-          (by-test (eqb h.major 5) h.argument (length s - length u) ov.NoMap f')
+          (by-test (eqb h.major 5) h.argument (length s - length u) (Ok None) f')
 
 -- the pairs of a map stand one behind the other
 first-stands : (n : ℕ) (l : List ℕ) (k : Item) (t : List ℕ) (v : Item) (w : List ℕ) (ps : Pairs) → decode 7 l ≡ got k t
@@ -164,50 +166,50 @@ pairs-stand (suc n) l ps u e =
     subst (PairsAt (suc n) l) (same-value j) (first-stands n l k t v w qs a x (pairs-stand n w qs z i))
 
 -- ---- read strictly, or not: a payload that is not LOOSE is as in the ordinary reading
-module _ (b : Bool) (s : List ℕ) (r : OpenResult) (e : r ≡ open_answer (length s) (payload_by (head_by b) s) (heading s)) where
+module _ (b : Bool) (s : List ℕ) (r : Opened) (e : r ≡ open_answer (length s) (payload_by (head_by b) s) (heading s)) where
   as_plain : payload_by (head_by b) s ≡ payload s → r ≡ open_answer (length s) (payload s) (heading s)
   as_plain f = rw f at e
 
-  as-loose : payload_by (head_by b) s ≡ refused Loose → r ≡ ov.Refused Loose
+  as-loose : payload_by (head_by b) s ≡ refused Loose → r ≡ Err Loose
   as-loose f = rw f at e
 
-  opened-refused : (k : Refusal) → r ≡ ov.Refused k → payload_by (head_by b) s ≡ refused k
+  opened-refused : (k : Refusal) → r ≡ Err k → payload_by (head_by b) s ≡ refused k
   opened-refused k g =
       ⊎_elim
-      (λ f. let h : ov.Refused k ≡ ov.Refused Loose = sym g ∙ as-loose f in f ∙ ap refused (sym (same-refusal h)))
+      (λ f. let h : ◌≡◌ {A = Opened} (Err k) (Err Loose) = sym g ∙ as-loose f in f ∙ ap refused (sym (same-refusal h)))
       (λ f. f ∙ plain-refused s r (as_plain f) k g)
       (payload_same b s)
 
-  opened_map : (n p : ℕ) → r ≡ ov.Map n p → IsMap b s n p
+  opened_map : (n p : ℕ) → r ≡ Ok (Some (map_head n p)) → IsMap b s n p
   opened_map n p g =
       ⊎_elim
-      (λ f. let h : ov.Map n p ≡ ov.Refused Loose = sym g ∙ as-loose f in absurd (let z : ◌≡◌ {A = ℕ} 0 1 = cc in omega arith))
+      (λ f. let h : ◌≡◌ {A = Opened} (Ok (Some (map_head n p))) (Err Loose) = sym g ∙ as-loose f in absurd (let z : ◌≡◌ {A = ℕ} 0 1 = cc in omega arith))
       (λ f.
       let w = plain_map s r (as_plain f) n p g in
       record { pairs-are = w.pairs-are; left = w.left; inside = w.inside; read = f ∙ w.read; each = w.each })
       (payload_same b s)
 
-  opened-other : r ≡ ov.NoMap → IsOther b s
+  opened-other : r ≡ Ok None → IsOther b s
   opened-other g =
       ⊎_elim
-      (λ f. let h : ov.NoMap ≡ ov.Refused Loose = sym g ∙ as-loose f in absurd (let z : ◌≡◌ {A = ℕ} 0 1 = cc in omega arith))
+      (λ f. let h : ◌≡◌ {A = Opened} (Ok None) (Err Loose) = sym g ∙ as-loose f in absurd (let z : ◌≡◌ {A = ℕ} 0 1 = cc in omega arith))
       (λ f.
       let w = plain_other s r (as_plain f) g in
       record { item = w.item; read = f ∙ w.read; other = w.other })
       (payload_same b s)
 
-  tells : (x : OpenResult) → r ≡ x → (opened_number x ≡ outcome_number (payload_by (head_by b) s)) × says_opened b s x
-  tells (ov.Refused k) g = let f = opened-refused k g in (rw f, f)
-  tells ov.NoMap g =
+  tells : (x : Opened) → r ≡ x → (opened_number x ≡ outcome_number (payload_by (head_by b) s)) × says_opened b s x
+  tells (Err k) g = let f = opened-refused k g in (rw f, f)
+  tells (Ok None) g =
       let w = opened-other g in
       (rw w.read, record { item = w.item; read = w.read; other = w.other (λ ps. true) false })
-  tells (ov.Map n p) g =
-      let w = opened_map n p g in (
+  tells (Ok (Some m)) g =
+      let w = opened_map m.count m.start g in (
         rw w.read,
         record {
           pairs-are = w.pairs-are;
           read = w.read;
-          stand = pairs-stand n (drop p s) w.pairs-are w.left w.each;
+          stand = pairs-stand m.count (drop m.start s) w.pairs-are w.left w.each;
         },
       )
 

@@ -1,5 +1,6 @@
 -- The strict reading is the ordinary one up to the first longer head that it meets. Each part is said by one equation: LOOSE where a
 -- longer head was met, else the ordinary outcome; and such equations join as the readings do.
+use Rattle.std.specs.Prelude.{Result, Ok, Err}
 use Prim.Native.Nat.{ℕ, zero, suc, ◌-◌, ◌%◌, ◌^◌, ◌≤◌}
 use mathlib.Core.Path.{◌≡◌, refl, sym, ap, ◌∙◌}
 use mathlib.Core.Bool.{Bool, true, false, cond}
@@ -17,41 +18,44 @@ use Rattle.cbor.specs.Decode.{negatives, byte_strings, text_strings, arrays, map
 use Rattle.cbor.specs.Decode.{major_of, content, decode_by, decode, payload, payload_by, ended}
 use Rattle.cbor.specs.Answer.{head_answer}
 use Rattle.cbor.specs.declared.head.Head.{Head}
-use Rattle.cbor.specs.declared.head.HeadResult.{HeadResult}
-use Rattle.cbor.specs.declared.head.HeadResult.TheVariants as hv
 use Rattle.cbor.specs.Strict.{short, short_only, strict_heading, head_by, after, loose_members}
 use Rattle.cbor.specs.Strict.{loose_pairs, loose_content, loose_head, loose, strict_payload, loose_payload}
 
 -- ---- a head, by the returns of `read_head_by`
-abbrev strictly : HeadResult → HeadResult
-strictly (hv.Refused k) = hv.Refused k
-strictly (hv.Got h) = cond h.short (hv.Got h) (hv.Refused Loose)
+abbrev strictly : Result Head Refusal → Result Head Refusal
+strictly (Err k) = Err k
+strictly (Ok h) = cond h.short (Ok h) (Err Loose)
 
 strict-answer : (n : ℕ) (o : Outcome Heading) → strictly (head_answer n o) ≡ head_answer n (and_then o short_only)
 strict-answer n (refused k) = refl
 strict-answer n (got h t) = go (short h)
   where
-    go : (b : Bool) → cond b (head_answer n (got h t)) (hv.Refused Loose) ≡ head_answer n (cond b (got h t) (refused Loose))
+    go : (b : Bool) → cond b (head_answer n (got h t)) (Err Loose) ≡ head_answer n (cond b (got h t) (refused Loose))
     go true = refl
     go false = refl
 
-module _ (s : List ℕ) (at : ℕ) (b : Bool) (r : HeadResult) (e : r ≡ head_answer (length s) (heading (drop at s))) where
+module _ (s : List ℕ) (at : ℕ) (b : Bool) (r : Result Head Refusal) (e : r ≡ head_answer (length s) (heading (drop at s))) where
   pub not-strict : b ≡ false → r ≡ head_answer (length s) (head_by b (drop at s))
   not-strict f = rw f e
 
   module _ (f : b ≡ true) where
-    strict-as : (q : HeadResult) → r ≡ q → strictly q ≡ head_answer (length s) (head_by b (drop at s))
+    strict-as : (q : Result Head Refusal) → r ≡ q → strictly q ≡ head_answer (length s) (head_by b (drop at s))
     unfolding strict_heading
     strict-as q g = rw f (ap strictly (sym g ∙ e) ∙ strict-answer (length s) (heading (drop at s)))
 
-    pub strict-refused : (k : Refusal) → r ≡ hv.Refused k → hv.Refused k ≡ head_answer (length s) (head_by b (drop at s))
-    strict-refused k g = strict-as (hv.Refused k) g
+    pub strict-kept : (h : Head) → r ≡ Ok h → h.short ≡ true → Ok h ≡ head_answer (length s) (head_by b (drop at s))
+    strict-kept h g i = sym (ap (λ (x : Bool). cond x (Ok h) (Err Loose)) i) ∙ strict-as (Ok h) g
 
-    pub strict-kept : (h : Head) → r ≡ hv.Got h → h.short ≡ true → hv.Got h ≡ head_answer (length s) (head_by b (drop at s))
-    strict-kept h g i = sym (ap (λ (x : Bool). cond x (hv.Got h) (hv.Refused Loose)) i) ∙ strict-as (hv.Got h) g
+    pub strict-loose : (h : Head) → r ≡ Ok h → h.short ≡ false → Err Loose ≡ head_answer (length s) (head_by b (drop at s))
+    strict-loose h g i = sym (ap (λ (x : Bool). cond x (Ok h) (Err Loose)) i) ∙ strict-as (Ok h) g
 
-    pub strict-loose : (h : Head) → r ≡ hv.Got h → h.short ≡ false → hv.Refused Loose ≡ head_answer (length s) (head_by b (drop at s))
-    strict-loose h g i = sym (ap (λ (x : Bool). cond x (hv.Got h) (hv.Refused Loose)) i) ∙ strict-as (hv.Got h) g
+  -- a head that was refused is so, strictly or not
+  pub strict-refused : (k : Refusal) → r ≡ Err k → Err k ≡ head_answer (length s) (head_by b (drop at s))
+  strict-refused k g = go b refl
+    where
+      go : (c : Bool) → b ≡ c → Err k ≡ head_answer (length s) (head_by b (drop at s))
+      go true f = strict-as f (Err k) g
+      go false f = sym g ∙ not-strict f
 
 -- LOOSE, or what was said
 abbrev or-loose : {A : Type 0} → Bool → Outcome A → Outcome A

@@ -1,5 +1,6 @@
 -- What the answers of `read_head` and `value_at` say of the tree: where an item can be read at a place,
 -- its head tells whether it is an integer, a number, a byte string or an array of such.
+use Rattle.std.specs.Prelude.{Result, Ok, Err}
 use Prim.Native.Nat.{ℕ, zero, suc, ◌-◌, ◌≤◌, ◌<◌}
 use mathlib.Core.Path.{◌≡◌, refl, ap, sym, ◌∙◌}
 use mathlib.Core.Bool.{Bool, true, false, cond}
@@ -20,8 +21,6 @@ use Rattle.cbor.specs.View.{other, scalar, list, scalar_of, scalars_of, view_of,
 use Rattle.cbor.specs.View.{scalars_at, view_by, view_at, label_by, label_at, value_by}
 use Rattle.cbor.specs.View.{value_answer, rest_of, after_item, after_items, ValueAt, ValueSpec}
 use Rattle.cbor.specs.declared.head.Head.{Head}
-use Rattle.cbor.specs.declared.head.HeadResult.{HeadResult}
-use Rattle.cbor.specs.declared.head.HeadResult.TheVariants as hv
 use Rattle.cbor.specs.declared.value.Label.TheVariants as lv
 use Rattle.cbor.specs.declared.value.Value.{Value}
 use Rattle.cbor.specs.declared.value.Value.TheVariants as vv
@@ -31,15 +30,15 @@ use Rattle.cbor.proofs.Outcomes.{then-got, same-value}
 use Rattle.cbor.proofs.Tails.{Tail, heading-tail}
 
 -- ---- a head, and the returns of `value_at`
-module _ (s : List ℕ) (at : ℕ) (r : HeadResult) (e : r ≡ head_answer (length s) (heading (drop at s))) where
-  label-refused : (k : Refusal) → r ≡ hv.Refused k → label_at (drop at s) ≡ lv.NoInteger
+module _ (s : List ℕ) (at : ℕ) (r : Result Head Refusal) (e : r ≡ head_answer (length s) (heading (drop at s))) where
+  label-refused : (k : Refusal) → r ≡ Err k → label_at (drop at s) ≡ lv.NoInteger
   unfolding label_at
   label-refused k g = rw (head-refused s at r e k g)
 
-  pub value-refused : (k : Refusal) → r ≡ hv.Refused k → vv.Other ≡ value_answer (length s) (heading (drop at s))
+  pub value-refused : (k : Refusal) → r ≡ Err k → vv.Other ≡ value_answer (length s) (heading (drop at s))
   value-refused k g = rw (head-refused s at r e k g)
 
-  module _ (h : Head) (g : r ≡ hv.Got h) where
+  module _ (h : Head) (g : r ≡ Ok h) where
     abbrev m : ℕ
     m = h.major
 
@@ -128,9 +127,9 @@ module _ (s : List ℕ) (at : ℕ) (r : HeadResult) (e : r ≡ head_answer (leng
     pub value-other : ¬ (m ≡ 0) → ¬ (m ≡ 1) → ¬ (m ≡ 2) → ¬ (m ≡ 4) → vv.Other ≡ value_answer (length s) (heading (drop at s))
     value-other n x o q = sym (value-got ∙ neither m n x o q)
 
-  tells-label : (x : HeadResult) → r ≡ x → says_label s at x
-  tells-label (hv.Refused k) g = label-refused k g
-  tells-label (hv.Got h) g = label-says h g
+  tells-label : (x : Result Head Refusal) → r ≡ x → says_label s at x
+  tells-label (Err k) g = label-refused k g
+  tells-label (Ok h) g = label-says h g
 
   tells-number : (o : Outcome Heading) → head_number (head_answer (length s) o) ≡ outcome_number o
   tells-number (refused k) = refl

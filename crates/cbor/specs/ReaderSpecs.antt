@@ -1,17 +1,12 @@
 -- What the answers of readers say of the bytes, for the layer above: it reads by them and never looks into Decode.
-use Rattle.std.specs.Prelude.{ℕ, suc, ◌≤◌, Bool, true, false, ◌≡◌, List, [], length, drop}
-use Rattle.cbor.specs.Answer.{head_answer, skip_answer, open_answer, outcome_number, head_number, skip_number, opened_number}
+use Rattle.refusal.specs.declared.Refusal.{Refusal}
+use Rattle.std.specs.Prelude.{ℕ, suc, ◌≤◌, Bool, true, false, ◌≡◌, List, [], length, drop, Result, Ok, Err, Some, None}
+use Rattle.cbor.specs.Answer.{Opened, head_answer, skip_answer, open_answer, outcome_number, head_number, skip_number, opened_number}
 use Rattle.cbor.specs.Decode.{Outcome, refused, got, heading, payload_by}
 use Rattle.cbor.specs.Item.{Item, Pairs, map_item, empty, pair}
 use Rattle.cbor.specs.Strict.{head_by}
 use Rattle.cbor.specs.View.{label_of, view_of, if_map, label_at, view_at, rest_of, after_item}
 use Rattle.cbor.specs.declared.head.Head.{Head}
-use Rattle.cbor.specs.declared.head.HeadResult.{HeadResult}
-use Rattle.cbor.specs.declared.head.HeadResult.TheVariants as hv
-use Rattle.cbor.specs.declared.item.OpenResult.{OpenResult}
-use Rattle.cbor.specs.declared.item.OpenResult.TheVariants as ov
-use Rattle.cbor.specs.declared.item.SkipResult.{SkipResult}
-use Rattle.cbor.specs.declared.item.SkipResult.TheVariants as sv
 use Rattle.cbor.specs.declared.value.Label.TheVariants as lv
 
 -- ---- a head, as a map's label: an integer is nothing but its head
@@ -21,21 +16,21 @@ pub record LabelSpec (s : List ℕ) (at : ℕ) (h : Head) : Type 0 where
   pub none : 2 ≤ h.major → label_at (drop at s) ≡ lv.NoInteger
   pub ends : h.major ≤ 1 → (d : ℕ) → after_item (suc d) (drop at s) ≡ drop h.next s
 
-abbrev pub says_label : List ℕ → ℕ → HeadResult → Type 0
-says_label s at (hv.Refused k) = label_at (drop at s) ≡ lv.NoInteger
-says_label s at (hv.Got h) = LabelSpec s at h
+abbrev pub says_label : List ℕ → ℕ → Result Head Refusal → Type 0
+says_label s at (Err k) = label_at (drop at s) ≡ lv.NoInteger
+says_label s at (Ok h) = LabelSpec s at h
 
-pub record HeadSpec (s : List ℕ) (at : ℕ) (r : HeadResult) : Type 0 where
+pub record HeadSpec (s : List ℕ) (at : ℕ) (r : Result Head Refusal) : Type 0 where
   pub is : r ≡ head_answer (length s) (heading (drop at s))
   pub number : head_number r ≡ outcome_number (heading (drop at s))
   pub label : says_label s at r
 
 -- ---- what was passed over, o being what is read there: where the bytes go on
-abbrev pub says_end : {A : Type 0} → List ℕ → Outcome A → SkipResult → Type 0
-says_end s o (sv.Refused k) = rest_of o ≡ []
-says_end s o (sv.Next p) = rest_of o ≡ drop p s
+abbrev pub says_end : {A : Type 0} → List ℕ → Outcome A → Result ℕ Refusal → Type 0
+says_end s o (Err k) = rest_of o ≡ []
+says_end s o (Ok p) = rest_of o ≡ drop p s
 
-pub record SkipSpec {A : Type 0} (s : List ℕ) (o : Outcome A) (r : SkipResult) : Type 0 where
+pub record SkipSpec {A : Type 0} (s : List ℕ) (o : Outcome A) (r : Result ℕ Refusal) : Type 0 where
   pub is : r ≡ skip_answer (length s) o
   pub number : skip_number r ≡ outcome_number o
   pub end : says_end s o r
@@ -59,12 +54,12 @@ pub record OtherSpec (b : Bool) (s : List ℕ) : Type 0 where
   pub other : if_map (λ ps. true) false item ≡ false
 
 -- read strictly, or not
-abbrev pub says_opened : Bool → List ℕ → OpenResult → Type 0
-says_opened b s (ov.Refused k) = payload_by (head_by b) s ≡ refused k
-says_opened b s ov.NoMap = OtherSpec b s
-says_opened b s (ov.Map n p) = MapSpec b s n p
+abbrev pub says_opened : Bool → List ℕ → Opened → Type 0
+says_opened b s (Err k) = payload_by (head_by b) s ≡ refused k
+says_opened b s (Ok None) = OtherSpec b s
+says_opened b s (Ok (Some m)) = MapSpec b s m.count m.start
 
-pub record OpenSpec (b : Bool) (s : List ℕ) (r : OpenResult) : Type 0 where
+pub record OpenSpec (b : Bool) (s : List ℕ) (r : Opened) : Type 0 where
   pub is : r ≡ open_answer (length s) (payload_by (head_by b) s) (heading s)
   pub number : opened_number r ≡ outcome_number (payload_by (head_by b) s)
   pub says : says_opened b s r

@@ -1,17 +1,8 @@
 // What is answered of data items; the functions that pass over them stand in `crate::scan`.
-use refusal::Refusal;
 
-// What passing over answers: the place where the bytes go on.
+// The head of a payload's map: how many pairs it has, and where the first begins.
 #[derive(Clone, Copy)]
-pub enum SkipResult {
-    Refused(Refusal),
-    Next(usize),
-}
-
-// A scanned payload: its outermost item is a map of `count` pairs that begin at `start`, or none.
-#[derive(Clone, Copy)]
-pub enum OpenResult {
-    Refused(Refusal),
-    NoMap,
-    Map { count: u64, start: usize },
+pub struct MapHead {
+    pub count: u64,
+    pub start: usize,
 }

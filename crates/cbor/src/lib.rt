@@ -11,8 +11,8 @@ pub mod write;
 ghost use Rattle.cbor.specs.Laws.{ItemLaws};
 
 pub(crate) use head::read_head_by;
-pub use head::{Head, HeadResult, read_head};
-pub use item::{OpenResult, SkipResult};
+pub use head::{Head, read_head};
+pub use item::MapHead;
 pub use value::{Label, Value, value_at};
 pub use write::head_laws;
 

@@ -1,7 +1,7 @@
 // What stands at a place, as far as the layer above asks.
 ghost use Rattle.cbor.specs.View.{ValueSpec};
 
-use crate::head::{HeadResult, read_head};
+use crate::head::read_head;
 
 // A map's label: an integer, or something else.
 #[derive(Clone, Copy)]
@@ -26,39 +26,35 @@ pub enum Value {
 pub fn value_at(s: &[u8], at: usize) -> Value
     ensures { ValueSpec s.now at result }
 {
-    let h = read_head(s, at);
-    match h {
-        HeadResult::Refused(_) => Value::Other,
-        HeadResult::Got(head) => {
-            let major = head.major;
-            let argument = head.argument;
-            let next = head.next;
-            match major {
-                0 => Value::Number {
-                    number: argument,
-                    next: next,
-                },
-                1 => Value::Minus {
-                    number: argument,
-                    next: next,
-                },
-                2 => {
-                    let room = (s.len() - next) as u64;
-                    if argument <= room {
-                        Value::Bytes {
-                            start: next,
-                            len: argument as usize,
-                        }
-                    } else {
-                        Value::Other
-                    }
-                }
-                4 => Value::Array {
+    let Ok(head) = read_head(s, at) else {
+        return Value::Other;
+    };
+    let argument = head.argument;
+    let next = head.next;
+    match head.major {
+        0 => Value::Number {
+            number: argument,
+            next,
+        },
+        1 => Value::Minus {
+            number: argument,
+            next,
+        },
+        2 => {
+            let room = (s.len() - next) as u64;
+            if argument <= room {
+                Value::Bytes {
                     start: next,
-                    count: argument,
-                },
-                _ => Value::Other,
+                    len: argument as usize,
+                }
+            } else {
+                Value::Other
             }
         }
+        4 => Value::Array {
+            start: next,
+            count: argument,
+        },
+        _ => Value::Other,
     }
 }

@@ -1,118 +1,122 @@
 // The desk tool cipher: AES-128 and AES-CCM-16-64-128 by lines of standard input (docs/TOOLS.md).
 #![tactic(auto)]
 
-mod answers;
 mod verb;
 
-use answers::answer;
+use refusal::Refusal;
 use std::io;
+use tool_text::first;
 use tool_text::input::Input;
-use tool_text::line_error::put_line_error;
-use tool_text::output::{Buffer, Output};
+use tool_text::line_error::LineError;
+use tool_text::output::{ByteString, Output};
 use tool_text::session::Session;
-use tool_words::line::next_line;
-use tool_words::shape::Judged;
-use tool_words::words::{Store, Words};
-use verb::{Verb, shape_of, verb_of};
+use tool_words::line::{Tool, run};
+use tool_words::words::Words;
+use verb::Verb;
 
-// The longest destination that can be lent.
-pub type Destination = [u8; 512];
-
-// What is kept from line to line, beside the destination: the session, and how much of the destination is lent.
+// What is kept from line to line: the destination, and how much of it is lent.
 #[derive(Drop)]
 struct Cipher {
-    session: Session,
     room: usize,
+    destination: [u8; 512],
 }
 
-// How much is lent after a line: another number where it says so.
-fn room_after(room: usize, verb: Verb, words: Words) -> usize {
-    match verb {
-        Verb::Room => (words.first.value() % 513) as usize,
-        _ => room,
+impl Tool for Cipher {
+    const HEX_AT: usize = 4;
+
+    fn answer(&mut self, words: &Words, out: &mut Output) -> Result<(), LineError> {
+        let verb = Verb::try_from(words.command)?;
+        verb.shape().judge(words)?;
+        self.execute(verb, words, out);
+        Ok(())
     }
 }
 
-// Answers the next line; an empty one and a comment are not answered.
-fn answer_line(
-    cipher: Cipher,
-    bytes: &mut Buffer,
-    store: &mut Store,
-    dst: &mut Destination,
-    buffer: &mut Buffer,
-) -> Cipher {
-    let asked = next_line(cipher.session, 4, bytes, store, buffer);
-    let words = asked.words;
-    let mut session = asked.session;
-    let mut room = cipher.room;
-    if !words.is_silent() {
-        let verb = judged(words);
-        room = room_after(room, verb, words);
-        let out = put_answer(session.out, verb, words, room, store, dst, buffer);
-        session.out = out.byte(b'\n', buffer);
-    }
-    Cipher { session, room }
-}
-
-// The command of a line, or what is wrong with it.
-fn judged(words: Words) -> Verb {
-    let verb = verb_of(words.command);
-    match shape_of(verb).judge(words) {
-        Judged::Right => verb,
-        Judged::Wrong(fault) => Verb::Wrong(fault),
-    }
-}
-
-fn put_answer(
-    out: Output,
-    verb: Verb,
-    words: Words,
-    room: usize,
-    store: &[u8],
-    dst: &mut [u8],
-    buffer: &mut Buffer,
-) -> Output {
-    match verb {
-        Verb::Wrong(fault) => put_line_error(out, fault, buffer),
-        _ => answer(out, verb, words, room, store, dst, buffer),
-    }
-}
-
-// Answers line after line until the input ends or nobody reads the answers.
-fn run(
-    mut cipher: Cipher,
-    bytes: &mut Buffer,
-    store: &mut Store,
-    dst: &mut Destination,
-    buffer: &mut Buffer,
-) -> io::Result<()> {
-    for _ in 0..u64::MAX {
-        if !cipher.session.open {
-            break;
+impl Cipher {
+    // Executes a command, which has its words.
+    fn execute(&mut self, verb: Verb, words: &Words, out: &mut Output) {
+        let [first, second, third, _] = &words.arguments;
+        let text = words.payload();
+        match verb {
+            Verb::Block => {
+                let sealed = aes::encrypt(first.array(), second.array());
+                write!(out, "{}", ByteString(&sealed));
+            }
+            Verb::Expand => put_keys(out, aes::expand(first.array())),
+            Verb::Substitute => put_entry(out, first.value()),
+            Verb::Seal => {
+                let dst = self.lent();
+                let written = aes_ccm::seal(
+                    first.array(),
+                    second.array(),
+                    third.bytes(),
+                    text,
+                    dst,
+                );
+                put_written(out, "sealed", written, dst);
+            }
+            Verb::Open => {
+                let dst = self.lent();
+                let written = aes_ccm::unseal(
+                    first.array(),
+                    second.array(),
+                    third.bytes(),
+                    text,
+                    dst,
+                );
+                put_written(out, "opened", written, dst);
+            }
+            Verb::Room => {
+                self.room = first.value() as usize;
+                write!(out, "lent {}", self.room);
+            }
+            Verb::Destination => write!(out, "{}", ByteString(self.lent())),
         }
-        cipher = answer_line(cipher, bytes, store, dst, buffer);
     }
-    cipher.session.end(buffer)
+
+    // What is lent of the destination.
+    fn lent(&mut self) -> &mut [u8] {
+        let room = self.room.min(self.destination.len());
+        &mut self.destination[..room]
+    }
+}
+
+// The round keys, with a space between two.
+fn put_keys(out: &mut Output, keys: [[u8; 16]; 11]) {
+    for (n, key) in keys.iter().enumerate() {
+        if 0 < n {
+            out.byte(b' ');
+        }
+        write!(out, "{}", ByteString(key));
+    }
+}
+
+// An entry of the substitution list.
+fn put_entry(out: &mut Output, number: u64) {
+    let list = aes::substitution();
+    let entry = list[(number % 256) as usize];
+    write!(out, "{}", ByteString(&[entry]));
+}
+
+// What was written to the destination, or why nothing was.
+fn put_written(out: &mut Output, word: &str, written: Result<usize, Refusal>, dst: &[u8]) {
+    match written {
+        Ok(len) => write!(out, "{word} {}", ByteString(first(dst, len))),
+        Err(refusal) => tool_notation::put_refusal(out, refusal),
+    }
 }
 
 fn main(rt: HostRuntime) -> io::Result<()> {
-    let mut bytes = [0u8; 65536];
-    let mut store = [0u8; 640];
-    let mut dst = [0u8; 512];
-    let mut buffer = [0u8; 65536];
     let session = Session::begin(
         &rt,
         Input::new(rt.stdin()),
         Output::new(rt.stdout()),
-        b"cipher: AES-128 and AES-CCM-16-64-128 (docs/TOOLS.md).\n\
+        "cipher: AES-128 and AES-CCM-16-64-128 (docs/TOOLS.md).\n\
 block KEY BLOCK, expand KEY, substitute N, seal KEY NONCE DATA HEX, open KEY NONCE DATA HEX, room N, destination\n",
-        &mut buffer,
     );
-    run(
-        Cipher { session, room: 264 },
-        &mut bytes,
-        &mut store,
-        &mut dst,
-        &mut buffer,
-    )
+    let mut cipher = Cipher {
+        room: 264,
+        destination: [0; 512],
+    };
+    run(session, &mut cipher)
 }

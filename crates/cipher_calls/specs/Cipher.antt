@@ -1,13 +1,12 @@
 -- Sealing and opening from C: a key has sixteen bytes and a nonce thirteen, else RANGE; the rest is the cipher's.
-use Rattle.std.specs.Prelude.{ℕ, Bool, cond, ◌&&◌, List, ◌≡◌, eqb, length}
+use Rattle.std.specs.Prelude.{ℕ, Bool, cond, ◌&&◌, List, ◌≡◌, eqb, length, Ok, Err}
 use Rattle.refusal.specs.declared.Refusal.TheVariants.{Range}
-use Rattle.refusal.specs.declared.Verdict.{Verdict}
-use Rattle.refusal.specs.declared.Verdict.TheVariants.{Accepted, Refused}
+use Rattle.refusal.specs.Verdict.{Verdict}
 use Rattle.aes_ccm.specs.Plan.{Plan, refuse, emit, answer, after, number_in, length_in, seal_plan, unseal_plan}
 
 abbrev pub plan_verdict : Plan → Verdict
-plan_verdict (refuse k) = Refused k
-plan_verdict (emit p) = Accepted
+plan_verdict (refuse k) = Err k
+plan_verdict (emit p) = Ok tt
 
 -- the plan was followed: the number r, the destination d before and d' afterwards, and the length n
 pub record Wrote (plan : Plan) (d : List ℕ) (r : ℕ) (d' : List ℕ) (n : ℕ) : Type 0 where

@@ -2,19 +2,19 @@
 ghost use Rattle.std.specs.Prelude.{◌≡◌};
 ghost use Rattle.aes_ccm.specs.Plan.{number_in, length_in};
 
-use aes_ccm::WriteResult;
+use refusal::Refusal;
 
 // How many bytes were written.
-pub(crate) fn store_length(written: WriteResult, length: &mut u64) -> u32
+pub(crate) fn store_length(written: Result<usize, Refusal>, length: &mut u64) -> u32
     ensures number { result ≡ number_in written }
     ensures length { length.new ≡ length_in written }
 {
     match written {
-        WriteResult::Refused(why) => {
+        Err(why) => {
             *length = 0;
             why.number() as u32
         }
-        WriteResult::Length(n) => {
+        Ok(n) => {
             *length = n as u64;
             0
         }

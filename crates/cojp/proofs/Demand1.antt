@@ -1,10 +1,10 @@
 -- Both answers have one clause for a refusal, which gives the empty object.
+use Rattle.std.specs.Prelude.{Err}
 use Prim.Native.Nat.{ℕ}
 use mathlib.Core.Path.{◌≡◌, refl}
 use native.Mathlib.Omega.{arith}
 use Rattle.refusal.specs.Verdict.{verdict_number}
 use Rattle.refusal.specs.declared.Refusal.{Refusal}
-use Rattle.refusal.specs.declared.Verdict.TheVariants.{Refused}
 use Rattle.cojp.specs.Reading.{Reading, refused, read, bind}
 use Rattle.cojp.specs.Walk.{payload_read_by}
 use Rattle.cojp.specs.Request.{empty_request, request_answer, request_form, empty_request_state, settled}
@@ -13,13 +13,13 @@ use Rattle.cojp.specs.Laws.{ReadersDemand1}
 use Rattle.cojp.specs.declared.configuration.Configuration.{Configuration}
 use Rattle.cojp.specs.declared.request.JoinRequest.{JoinRequest}
 
-request-empty : (o : Reading JoinRequest) (k : Refusal) → (request_answer o).verdict ≡ Refused k
+request-empty : (o : Reading JoinRequest) (k : Refusal) → (request_answer o).verdict ≡ Err k
     → (request_answer o).request ≡ empty_request
 request-empty (refused j) k e = refl
 request-empty (read q) k e = absurd (let z : ◌≡◌ {A = ℕ} 0 1 = cc in omega arith)
 
 configuration-empty :
-    (o : Reading Configuration) (k : Refusal) → (configuration_answer o).verdict ≡ Refused k →
+    (o : Reading Configuration) (k : Refusal) → (configuration_answer o).verdict ≡ Err k →
     (configuration_answer o).configuration ≡ empty_configuration
 configuration-empty (refused j) k e = refl
 configuration-empty (read c) k e = absurd (let z : ◌≡◌ {A = ℕ} 0 1 = cc in omega arith)

@@ -1,4 +1,5 @@
 -- What a configuration that was read holds is in range: a parameter is taken only where its value is good.
+use Rattle.std.specs.Prelude.{Ok}
 use Prim.Native.Nat.{ℕ, ◌≤◌, ◌+◌, ◌-◌}
 use native.Mathlib.Omega.{arith}
 use mathlib.Core.Path.{◌≡◌, refl}
@@ -10,7 +11,6 @@ use lib.ListN.{length, take, replicate}
 use lib.Seq.{take_at}
 use Rattle.refusal.specs.RefusalLemmas.{refused-not}
 use Rattle.refusal.specs.declared.Refusal.TheVariants as refusal
-use Rattle.refusal.specs.declared.Verdict.TheVariants.{Accepted}
 use Rattle.cbor.specs.Decode.{heading}
 use Rattle.cbor.specs.View.{Scalar, number, minus, string, other, View, scalar, list}
 use Rattle.link_key.specs.Key.{no_key}
@@ -443,7 +443,7 @@ reads-in-range laws K v p e =
     empty_configuration
     (empty-fine v) p) e
   where
-    go : (r : Reading Configuration) → Gives (Fine v) r → (configuration_answer r).verdict ≡ Accepted
+    go : (r : Reading Configuration) → Gives (Fine v) r → (configuration_answer r).verdict ≡ Ok tt
         → InRange v (configuration_answer r).configuration
     go (refused k) h q = refused-not k q
     go (read c) h q = in-range v c h

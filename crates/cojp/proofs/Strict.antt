@@ -1,4 +1,5 @@
 -- The strict readings, from what the layer below promises of a payload that is read strictly.
+use Rattle.std.specs.Prelude.{Err}
 use Prim.Native.Nat.{ℕ, ◌≤◌}
 use mathlib.Core.Path.{◌≡◌, refl, ap, ◌∙◌}
 use mathlib.Core.Bool.{Bool, true, false, cond}
@@ -9,7 +10,6 @@ use lib.ListN.{length}
 use Rattle.refusal.specs.Refusal.{number_of}
 use Rattle.refusal.specs.declared.Refusal.{Refusal}
 use Rattle.refusal.specs.declared.Refusal.TheVariants.{«Type», Twice, Keys, Role, Owed, Long, Loose}
-use Rattle.refusal.specs.declared.Verdict.TheVariants as verdict
 use Rattle.cbor.specs.Item.{Item, Pairs, unsigned, negative, bytes, text, array, map_item, tag, simple, float, empty, pair}
 use Rattle.cbor.specs.Decode.{Outcome, payload}
 use Rattle.cbor.specs.Decode as decode
@@ -169,11 +169,11 @@ unfolding configuration_taking
 configuration-taking v c n x =
     firm-put (noted v n) (taking_for v c (parameter_of v n) x) (parameter-firm v c (parameter_of v n) x)
 
-request-never : (r : Reading JoinRequest) → Firm r → (request_answer r).verdict ≡ verdict.Refused Loose → ⊥
+request-never : (r : Reading JoinRequest) → Firm r → (request_answer r).verdict ≡ Err Loose → ⊥
 request-never (refused k) h e = h cc
 request-never (read q) h e = let z : ◌≡◌ {A = ℕ} 0 1 = cc in omega arith
 
-configuration-never : (r : Reading Configuration) → Firm r → (configuration_answer r).verdict ≡ verdict.Refused Loose → ⊥
+configuration-never : (r : Reading Configuration) → Firm r → (configuration_answer r).verdict ≡ Err Loose → ⊥
 configuration-never (refused k) h e = h cc
 configuration-never (read c) h e = let z : ◌≡◌ {A = ℕ} 0 1 = cc in omega arith
 

@@ -1,11 +1,11 @@
 -- Byte strings are copied byte by byte into zeros; one is taken where its length is in the limits.
-use Prim.Native.Nat.{ℕ, suc, ◌+◌, ◌-◌, ◌≤◌, ◌<◌}
-use mathlib.Core.Path.{◌≡◌, refl, sym, ◌∙◌}
-use mathlib.Core.List.{List, [], ◌∷◌, ◌++◌}
+use Prim.Native.Nat.{ℕ, ◌+◌, ◌≤◌, ◌<◌}
+use mathlib.Core.Path.{◌≡◌, refl, ◌∙◌}
+use mathlib.Core.List.{List, ◌++◌}
 use native.Mathlib.Omega.{arith}
-use native.Mathlib.Numerals.{add-one}
-use lib.ListN.{length, take, drop, get_or, set, replicate, length-drop}
-use lib.Seq.{set_at, take-suc, append_snoc, get_or-drop, length-take-le}
+use lib.ListN.{length, take, drop, replicate, length-drop}
+use lib.Seq.{length-take-le}
+use Rattle.std.proofs.lemmas.List.{drop-replicate}
 use borrow.Author.Tests.{le-leb, lt-leb}
 use Rattle.refusal.specs.declared.Refusal.TheVariants as refusal
 use Rattle.cbor.specs.View.{ValueAt, ValueSpec}
@@ -18,28 +18,6 @@ use Rattle.cojp.specs.declared.octets.OctetsParameter.{OctetsParameter}
 use Rattle.cojp.specs.declared.disposition.Disposition.TheVariants.{Taken, Discarded}
 
 -- ---- copying
-pub pad-none : (s : List ℕ) (at : ℕ) → replicate 16 0 ≡ padded 16 (take 0 (drop at s))
-unfolding padded
-pad-none s at = refl
-
-module _ (s : List ℕ) (at n i : ℕ) (h : i < n) (l : n ≤ 16) (f : at + n ≤ length s) where
-  front : length (take i (drop at s)) ≡ i
-  front = length-take-le i (drop at s) (omega (arith, length-drop at s))
-
-  one_more : take (i + 1) (drop at s) ≡ take i (drop at s) ++ (get_or s (at + i) 0 ∷ [])
-  one_more =
-      let k : i < length (drop at s) = omega (arith, length-drop at s) in
-      rw (add-one, take-suc (drop at s) i 0, get_or-drop at s i 0)
-
-  pub pad-more : set (padded 16 (take i (drop at s))) i (get_or s (at + i) 0) ≡ padded 16 (take (i + 1) (drop at s))
-  unfolding padded
-  pad-more =
-      let e : 16 - i ≡ suc (16 - (i + 1)) = omega arith in
-      let g : length (take (i + 1) (drop at s)) ≡ i + 1 = length-take-le (i + 1) (drop at s) (omega (arith, length-drop at s)) in
-      rw (front, e)
-      (set_at (take i (drop at s)) 0 (replicate (16 - (i + 1)) 0) (get_or s (at + i) 0) i front
-      ∙ sym (rw (g, one_more) (append_snoc (take i (drop at s)) (get_or s (at + i) 0) (replicate (16 - (i + 1)) 0))))
-
 module _ (s : List ℕ) (at n : ℕ) where
   pub copied-long : 16 < n → replicate 16 0 ≡ copied_from s at n
   copied-long h = rw (lt-leb n 16 h)
@@ -50,9 +28,13 @@ module _ (s : List ℕ) (at n : ℕ) where
   pub copied-inside : n ≤ 16 → at + n ≤ length s → copied_from s at n ≡ padded 16 (take n (drop at s))
   copied-inside l h = rw (le-leb n 16 l, le-leb (at + n) (length s) h)
 
-pub pad-end : (s : List ℕ) (at n i : ℕ) (out : List ℕ) → out ≡ padded 16 (take i (drop at s)) → i ≡ n → n ≤ 16 → at + n ≤ length s
-    → out ≡ copied_from s at n
-pad-end s at n i out e f l h = sym (copied-inside s at n l h ∙ rw (← f) (sym e))
+-- the bytes over the first of 16 zeros
+pub copied-over : (s : List ℕ) (at n m : ℕ) (b : List ℕ) → b ≡ take m (drop at s) → m ≡ n → n ≤ 16 → at + n ≤ length s
+    → b ++ drop n (replicate 16 0) ≡ copied_from s at n
+unfolding padded
+copied-over s at n m b e k l h =
+    let g : length (take n (drop at s)) ≡ n = length-take-le n (drop at s) (omega (arith, length-drop at s)) in
+    rw (copied-inside s at n l h, e, k, g, drop-replicate {X = ℕ} n 16 0) refl
 
 -- ---- the returns of `read_octets`
 module _ (s : List ℕ) (at least : ℕ) (v : Value) (e : ValueSpec s at v) where

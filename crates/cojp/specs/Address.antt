@@ -2,13 +2,11 @@
 use Rattle.std.specs.Prelude.{ℕ, Bool, true, false, cond, List, [], ◌∷◌, replicate}
 use Rattle.short_address.specs.Address.{is_address}
 use Rattle.cbor.specs.View.{Scalar, number, minus, string, other, View, scalar, list}
-use Rattle.refusal.specs.declared.Verdict.TheVariants as verdict
-use Rattle.cojp.specs.declared.address.AddressRead.{AddressRead}
-use Rattle.cojp.specs.Reading.{Reading, refused, read, Judgement, broken, unfit, good, concluded}
+use Rattle.cojp.specs.Reading.{Reading, read, Judgement, broken, unfit, good, concluded}
 use Rattle.cojp.specs.declared.address.ShortAddress.{ShortAddress}
 use Rattle.cojp.specs.declared.address.AddressParameter.{AddressParameter}
 use Rattle.cojp.specs.declared.disposition.Disposition.{Disposition}
-use Rattle.cojp.specs.declared.disposition.Disposition.TheVariants.{Absent, Taken, Discarded}
+use Rattle.cojp.specs.declared.disposition.Disposition.TheVariants.{Taken, Discarded}
 
 abbrev pub address_of : List ℕ → Bool → ℕ → ShortAddress
 address_of s leased lease = record { bytes = s; leased = leased; lease = lease }
@@ -50,8 +48,3 @@ address_concluded j = concluded (read (no_address_parameter Discarded)) (address
 
 abbrev pub address_read : View → Reading AddressParameter
 address_read v = address_concluded (address_judged v)
-
--- the answer: the value ends at `next`; beside a refusal the parameter is absent and `next` is 0
-abbrev pub address_answer : Reading AddressParameter → ℕ → AddressRead
-address_answer (refused k) next = record { verdict = verdict.Refused k; parameter = no_address_parameter Absent; next = 0 }
-address_answer (read p) next = record { verdict = verdict.Accepted; parameter = p; next = next }

@@ -1,6 +1,7 @@
 -- For the contracts of functions that read at a place: what Address and KeySet say of the tree, said of the bytes that it is read from.
 -- Where no item can be read these definitions go on with anything; a payload that passed the item scan has no such place.
-use Rattle.std.specs.Prelude.{ℕ, ◌+◌, ◌-◌, ◌≤◌, ◌<◌, cond, ◌≡◌, List, [], ◌∷◌, eqb, length, take, drop}
+use Rattle.std.specs.Prelude.{ℕ, ◌+◌, ◌-◌, ◌≤◌, ◌<◌, cond, ◌≡◌, List, [], ◌∷◌, eqb, length, take, drop, Result, Ok, Err}
+use Rattle.refusal.specs.declared.Refusal.{Refusal}
 use Rattle.cbor.specs.Decode.{heading}
 use Rattle.cbor.specs.View.{Scalar, number, minus, string, other, View, view_at, scalars_at, after_item, after_items, value_answer}
 use Rattle.cbor.specs.declared.value.Value.{Value}
@@ -27,6 +28,11 @@ after_members n l = after_items 6 n l
 pub record EndsAt (s : List ℕ) (next : ℕ) (left : List ℕ) : Type 0 where
   pub rest : drop next s ≡ left
   pub inside : next ≤ length s
+
+-- the place beside what a reader read
+abbrev pub Continues : {A : Type 0} → List ℕ → Result (A × ℕ) Refusal → List ℕ → Type 0
+Continues s (Err k) left = Unit {0}
+Continues s (Ok r) left = EndsAt s r.1 left
 
 -- there is no other such place, also where nothing is left
 abbrev pub EndUnique : Type 0

@@ -1,8 +1,7 @@
 -- Configurations: 2 key set, 3 short address, 4 JRC address; 5 network identifier and 6 prefix in the draft; 6 blacklist and 7 join rate in
 -- the published form (docs/RFC9031.md). What does not belong to a form stays absent in it.
-use Rattle.std.specs.Prelude.{ℕ, ◌+◌, List}
+use Rattle.std.specs.Prelude.{ℕ, ◌+◌, List, Ok, Err}
 use Rattle.refusal.specs.declared.Refusal.{Refusal}
-use Rattle.refusal.specs.declared.Verdict.TheVariants as verdict
 use Rattle.cbor.specs.Decode.{Outcome, Heading, heading}
 use Rattle.cbor.specs.Strict.{strict_heading}
 use Rattle.cbor.specs.View.{View}
@@ -206,10 +205,10 @@ configuration_form v = record {
 
 -- ---- the answer: beside a refusal stands the empty configuration
 abbrev pub refuse_configuration : Refusal → ConfigurationRead
-refuse_configuration k = record { verdict = verdict.Refused k; configuration = empty_configuration }
+refuse_configuration k = record { verdict = Err k; configuration = empty_configuration }
 
 abbrev pub accept_configuration : Configuration → ConfigurationRead
-accept_configuration c = record { verdict = verdict.Accepted; configuration = c }
+accept_configuration c = record { verdict = Ok tt; configuration = c }
 
 abbrev pub configuration_answer : Reading Configuration → ConfigurationRead
 configuration_answer (refused k) = refuse_configuration k

@@ -1,6 +1,5 @@
 -- What a reader takes is in range: a parameter is taken only where its value is good.
-use Rattle.std.specs.Prelude.{◌≡◌, true, List, ℕ}
-use Rattle.refusal.specs.declared.Verdict.TheVariants.{Accepted}
+use Rattle.std.specs.Prelude.{◌≡◌, true, List, ℕ, Ok}
 use Rattle.cojp.specs.Configuration.{read_configuration_as}
 use Rattle.cojp.specs.ErrorReports.{error_reports_valid}
 use Rattle.cojp.specs.Reported.{error_reports_of}
@@ -20,7 +19,7 @@ pub record InRange (v : Version) (c : Configuration) : Type 0 where
 
 abbrev pub ReadsInRange : Type 0
 ReadsInRange =
-    (v : Version) (p : List ℕ) → (read_configuration_as v p).verdict ≡ Accepted → InRange v (read_configuration_as v p).configuration
+    (v : Version) (p : List ℕ) → (read_configuration_as v p).verdict ≡ Ok tt → InRange v (read_configuration_as v p).configuration
 
 -- the reports of a configuration are among what came, so they may be made if what came may be reported
 abbrev pub ErrorReportsValid : Type 0

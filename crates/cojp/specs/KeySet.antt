@@ -1,6 +1,6 @@
 -- Key sets: one flat array of groups, each an identifier (unsigned), optionally a usage (unsigned, absent means 0),
 -- a value (byte string) and, in the published form (RFC 9031), optionally additional information (byte string).
-use Rattle.std.specs.Prelude.{ℕ, ◌-◌, Bool, true, false, cond, List, [], ◌∷◌, ◌++◌, length, replicate}
+use Rattle.std.specs.Prelude.{ℕ, ◌-◌, Bool, true, false, cond, List, [], ◌∷◌, ◌++◌, length, replicate, Ok, Err}
 use Rattle.std.proofs.Math.Option.{Option, none, some}
 use Rattle.refusal.specs.declared.Refusal.TheVariants.{Keys}
 use Rattle.cbor.specs.View.{Scalar, number, minus, string, other, View, scalar, list}
@@ -11,7 +11,6 @@ use Rattle.link_key.specs.declared.Key.{Key}
 use Rattle.link_key.specs.declared.additional_info.AdditionalInfo.{AdditionalInfo}
 use Rattle.link_key.specs.declared.additional_info.AdditionalInfo.TheVariants as info
 use Rattle.link_key.specs.declared.set.key_set.KeySet.{KeySet}
-use Rattle.refusal.specs.declared.Verdict.TheVariants as verdict
 use Rattle.cojp.specs.declared.key_set.KeysRead.{KeysRead}
 use Rattle.cojp.specs.Reading.{Reading, refused, read, Judgement, broken, unfit, good, concluded}
 use Rattle.cojp.specs.declared.key_set.KeysParameter.{KeysParameter}
@@ -99,5 +98,5 @@ keys_read v = keys_read_as false v
 
 -- the answer: the value ends at `next`; beside a refusal the parameter is absent and `next` is 0
 abbrev pub keys_answer : Reading KeysParameter → ℕ → KeysRead
-keys_answer (refused k) next = record { verdict = verdict.Refused k; parameter = no_keys_parameter Absent; next = 0 }
-keys_answer (read p) next = record { verdict = verdict.Accepted; parameter = p; next = next }
+keys_answer (refused k) next = record { verdict = Err k; parameter = no_keys_parameter Absent; next = 0 }
+keys_answer (read p) next = record { verdict = Ok tt; parameter = p; next = next }

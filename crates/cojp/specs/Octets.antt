@@ -1,13 +1,11 @@
 -- Network identifiers and prefixes (0 to 16 bytes) and JRC addresses (16 bytes): byte strings.
 use Rattle.std.specs.Prelude.{ℕ, ◌+◌, ◌-◌, cond, ◌&&◌, List, ◌++◌, leb, length, take, drop, replicate}
 use Rattle.cbor.specs.View.{number, minus, string, other, View, scalar, list}
-use Rattle.refusal.specs.declared.Verdict.TheVariants as verdict
-use Rattle.cojp.specs.declared.octets.OctetsRead.{OctetsRead}
-use Rattle.cojp.specs.Reading.{Reading, refused, read, Judgement, broken, unfit, good, concluded}
+use Rattle.cojp.specs.Reading.{Reading, read, Judgement, broken, unfit, good, concluded}
 use Rattle.cojp.specs.declared.octets.Octets.{Octets}
 use Rattle.cojp.specs.declared.octets.OctetsParameter.{OctetsParameter}
 use Rattle.cojp.specs.declared.disposition.Disposition.{Disposition}
-use Rattle.cojp.specs.declared.disposition.Disposition.TheVariants.{Absent, Taken, Discarded}
+use Rattle.cojp.specs.declared.disposition.Disposition.TheVariants.{Taken, Discarded}
 
 -- the bytes, and zeros up to n of them
 unfoldable pub padded : ℕ → List ℕ → List ℕ
@@ -46,8 +44,3 @@ octets_judged least (list ps) = broken
 -- one of another length is discarded
 abbrev pub octets_read : ℕ → View → Reading OctetsParameter
 octets_read least v = concluded (read (no_octets_parameter Discarded)) (octets_parameter Taken) (octets_judged least v)
-
--- the answer: the value ends at `next`; beside a refusal the parameter is absent and `next` is 0
-abbrev pub octets_answer : Reading OctetsParameter → ℕ → OctetsRead
-octets_answer (refused k) next = record { verdict = verdict.Refused k; parameter = no_octets_parameter Absent; next = 0 }
-octets_answer (read p) next = record { verdict = verdict.Accepted; parameter = p; next = next }

@@ -1,8 +1,8 @@
 -- What reading comes to, and how a known label's value is read: it is judged, and from the judgement follows what document 01 says.
+use Rattle.std.specs.Prelude.{ℕ, Result, Ok, Err}
 use Rattle.refusal.specs.declared.Refusal.{Refusal}
 use Rattle.refusal.specs.declared.Refusal.TheVariants as refusal
-use Rattle.refusal.specs.declared.Verdict.{Verdict}
-use Rattle.refusal.specs.declared.Verdict.TheVariants as verdict
+use Rattle.refusal.specs.Verdict.{Verdict}
 use Rattle.protocol_version.specs.Version.{by_version}
 use Rattle.cojp.specs.declared.disposition.Disposition.{Disposition}
 use Rattle.cojp.specs.declared.disposition.Disposition.TheVariants.{Absent, Taken, Discarded}
@@ -24,13 +24,18 @@ map_reading f (read a) = read (f a)
 
 -- what an answer says: beside a refusal nothing is looked at
 abbrev pub result_of : {A : Type 0} → Verdict → A → Reading A
-result_of verdict.Accepted a = read a
-result_of (verdict.Refused k) a = refused k
+result_of (Ok tt) a = read a
+result_of (Err k) a = refused k
+
+-- what a reader at a place says: a refusal, or what was read, beside which stands where the bytes go on
+abbrev pub read_by : {A : Type 0} → Result (A × ℕ) Refusal → Reading A
+read_by (Err k) = refused k
+read_by (Ok r) = read r.0
 
 -- what an answer that accepts promises besides
 abbrev pub Accepting : Verdict → Type 0 → Type 0
-Accepting verdict.Accepted P = P
-Accepting (verdict.Refused k) P = Unit {0}
+Accepting (Ok tt) P = P
+Accepting (Err k) P = Unit {0}
 
 -- a known label's value: of another kind or pattern; of the pattern, but outside the limits of its content; or good
 pub data Judgement (A : Type 0) : Type 0 where

@@ -1,9 +1,8 @@
 -- Join requests: 1 role (unsigned, absent means 0), 5 network identifier; in the published form (docs/RFC9031.md) also 8, reports of what a
 -- node could not act on.
-use Rattle.std.specs.Prelude.{ℕ, ◌+◌, Bool, true, false, cond, List, leb, eqb}
+use Rattle.std.specs.Prelude.{ℕ, ◌+◌, Bool, true, false, cond, List, leb, eqb, Ok, Err}
 use Rattle.refusal.specs.declared.Refusal.{Refusal}
 use Rattle.refusal.specs.declared.Refusal.TheVariants as refusal
-use Rattle.refusal.specs.declared.Verdict.TheVariants as verdict
 use Rattle.cbor.specs.Decode.{Outcome, Heading, heading}
 use Rattle.cbor.specs.Strict.{strict_heading}
 use Rattle.cbor.specs.View.{number, minus, string, other, View, scalar, list}
@@ -150,10 +149,10 @@ settled v g = cond (owing v g.request.role g.request.network.disposition) (refus
 
 -- ---- the answer: beside a refusal stands the empty request
 abbrev pub refuse_request : Refusal → RequestRead
-refuse_request k = record { verdict = verdict.Refused k; request = empty_request }
+refuse_request k = record { verdict = Err k; request = empty_request }
 
 abbrev pub accept_request : JoinRequest → RequestRead
-accept_request q = record { verdict = verdict.Accepted; request = q }
+accept_request q = record { verdict = Ok tt; request = q }
 
 abbrev pub request_answer : Reading JoinRequest → RequestRead
 request_answer (refused k) = refuse_request k

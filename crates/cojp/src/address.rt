@@ -1,16 +1,17 @@
 // Short addresses, with the time that they are leased for: seconds, in the published form hours.
-ghost use Rattle.std.specs.Prelude.{◌≡◌, ◌+◌, ◌≤◌, length, take, drop};
-ghost use Rattle.cojp.specs.Address.{no_address_parameter, address_by, address_in, address_concluded, address_read, address_answer};
-ghost use Rattle.cojp.specs.Bytes.{value_view, members_at, string_and, after_value, after_members, EndsAt};
-ghost use Rattle.cojp.specs.Reading.{broken, unfit, Accepting};
+ghost use Rattle.std.specs.Prelude.{◌≡◌, ◌+◌, ◌≤◌, length, drop};
+ghost use Rattle.cojp.specs.Address.{no_address_parameter, address_by, address_in, address_concluded, address_read};
+ghost use Rattle.cojp.specs.Bytes.{value_view, members_at, string_and, after_value, after_members, Continues};
+ghost use Rattle.cojp.specs.Reading.{read, read_by};
 
 use crate::disposition::Disposition;
 use crate::members::{Member, member_at};
 use cbor::{Value, value_at};
-use refusal::{Refusal, Verdict};
+use refusal::Refusal;
 use short_address::is_address;
 
 // An address that is not leased has no end; its lease is 0 in a value that we make.
+// Kept: C stores both in its images (crates/object_image), whose laws give back the lease of an address that is not leased too.
 #[derive(Clone, Copy)]
 pub struct ShortAddress {
     pub bytes: [u8; 2],
@@ -25,27 +26,17 @@ pub struct AddressParameter {
     pub value: ShortAddress,
 }
 
-// `next` is where the bytes go on after the value. Beside a refusal the parameter is absent and `next` is 0.
-#[derive(Clone, Copy)]
-pub struct AddressRead {
-    pub verdict: Verdict,
-    pub parameter: AddressParameter,
-    pub next: usize,
-}
-
 // A parameter with no value.
 pub fn no_address(report: Disposition) -> AddressParameter
     ensures { result ≡ no_address_parameter report }
 {
-    let zeros = [0u8; 2];
-    let value = ShortAddress {
-        bytes: zeros,
-        leased: false,
-        lease: 0,
-    };
     AddressParameter {
         disposition: report,
-        value: value,
+        value: ShortAddress {
+            bytes: [0u8; 2],
+            leased: false,
+            lease: 0,
+        },
     }
 }
 
@@ -58,120 +49,83 @@ impl AddressParameter {
         let held = self.value;
         let bytes = held.bytes;
         let value = ShortAddress {
-            bytes: bytes,
+            bytes,
             leased: held.leased,
             lease: held.lease,
         };
         AddressParameter {
             disposition: report,
-            value: value,
+            value,
         }
     }
 }
 
-fn broken_address() -> AddressRead
-    ensures { result ≡ address_answer (address_concluded broken) 0 }
-{
-    let parameter = no_address(Disposition::Absent);
-    AddressRead {
-        verdict: Verdict::Refused(Refusal::Type),
-        parameter: parameter,
-        next: 0,
-    }
-}
-
-// A byte string that is no address: the parameter is discarded.
-fn discarded_address(next: usize) -> AddressRead
-    ensures { result ≡ address_answer (address_concluded unfit) next }
-{
-    let none = no_address(Disposition::Discarded);
-    AddressRead {
-        verdict: Verdict::Accepted,
-        parameter: none,
-        next: next,
-    }
-}
-
-// The address that `len` bytes from `start` on are, if they are one.
-fn address_from(
-    s: &[u8],
-    start: usize,
-    len: usize,
-    leased: bool,
-    lease: u64,
-    next: usize,
-) -> AddressRead
-    requires { start + len ≤ length s.now }
-    ensures { result ≡ address_answer (address_concluded (address_by (take len (drop start s.now)) leased lease)) next }
+// The address that some bytes are; what is no address is discarded.
+fn address_from(bytes: &[u8], leased: bool, lease: u64) -> AddressParameter
+    ensures { read result ≡ address_concluded (address_by bytes.now leased lease) }
 {
     short_address::laws();
-    if len != 2 {
-        return discarded_address(next);
+    if bytes.len() != 2 {
+        return no_address(Disposition::Discarded);
     }
-    let bytes = [s[start], s[start + 1]];
-    if is_address(bytes) {
-        let value = ShortAddress {
-            bytes: bytes,
-            leased: leased,
-            lease: lease,
-        };
-        let parameter = AddressParameter {
-            disposition: Disposition::Taken,
-            value: value,
-        };
-        return AddressRead {
-            verdict: Verdict::Accepted,
-            parameter: parameter,
-            next: next,
-        };
+    let pair = [bytes[0], bytes[1]];
+    if !is_address(pair) {
+        return no_address(Disposition::Discarded);
     }
-    discarded_address(next)
+    AddressParameter {
+        disposition: Disposition::Taken,
+        value: ShortAddress {
+            bytes: pair,
+            leased,
+            lease,
+        },
+    }
 }
 
 // The rest of a short address after its byte string: nothing, or a lease; `left` members are left.
-fn lease_after(s: &[u8], start: usize, len: usize, left: u64) -> AddressRead
+fn lease_after(
+    s: &[u8],
+    start: usize,
+    len: usize,
+    left: u64,
+) -> Result<(AddressParameter, usize), Refusal>
     requires { start + len ≤ length s.now }
-    ensures value { result ≡ address_answer (address_concluded (address_in (string_and s.now start len left))) result.next }
-    ensures rest { Accepting result.verdict
-        (EndsAt s.now result.next (after_members left (drop (start + len) s.now))) }
+    ensures value { read_by result ≡ address_concluded (address_in (string_and s.now start len left)) }
+    ensures rest { Continues s.now result (after_members left (drop (start + len) s.now)) }
 {
     let end = start + len;
+    let bytes = &s[start..end];
     if left == 0 {
-        return address_from(s, start, len, false, 0, end);
+        return Ok((address_from(bytes, false, 0), end));
     }
-    let second = member_at(s, end, left);
-    match second {
-        Member::Number { number, next } => {
-            if left == 1 {
-                address_from(s, start, len, true, number, next)
-            } else {
-                broken_address()
-            }
-        }
-        _ => broken_address(),
+    let Member::Number { number, next } = member_at(s, end, left) else {
+        return Err(Refusal::Type);
+    };
+    if left != 1 {
+        return Err(Refusal::Type);
     }
+    Ok((address_from(bytes, true, number), next))
 }
 
 // The short address whose `count` members begin at a place.
-fn address_members(s: &[u8], at: usize, count: u64) -> AddressRead
-    ensures value { result ≡ address_answer (address_concluded (address_in (members_at count (drop at s.now)))) result.next }
-    ensures rest { Accepting result.verdict (EndsAt s.now result.next (after_members count (drop at s.now))) }
+fn address_members(s: &[u8], at: usize, count: u64) -> Result<(AddressParameter, usize), Refusal>
+    ensures value { read_by result ≡ address_concluded (address_in (members_at count (drop at s.now))) }
+    ensures rest { Continues s.now result (after_members count (drop at s.now)) }
 {
-    let first = member_at(s, at, count);
-    match first {
-        Member::Bytes { start, len } => lease_after(s, start, len, count - 1),
-        _ => broken_address(),
-    }
+    let Member::Bytes { start, len } = member_at(s, at, count) else {
+        return Err(Refusal::Type);
+    };
+    lease_after(s, start, len, count - 1)
 }
 
-// The short address at a place of a payload that passed the item scan; of other bytes it says what `value_view` makes of them.
-pub fn read_address(s: &[u8], at: usize) -> AddressRead
-    ensures value { result ≡ address_answer (address_read (value_view (drop at s.now))) result.next }
-    ensures rest { Accepting result.verdict (EndsAt s.now result.next (after_value (drop at s.now))) }
+// The short address at a place of a payload that passed the item scan, and where the bytes go on after it; of other bytes it says what
+// `value_view` makes of them.
+pub fn read_address(s: &[u8], at: usize) -> Result<(AddressParameter, usize), Refusal>
+    ensures value { read_by result ≡ address_read (value_view (drop at s.now)) }
+    ensures rest { Continues s.now result (after_value (drop at s.now)) }
 {
-    let v = value_at(s, at);
-    match v {
-        Value::Array { start, count } => address_members(s, start, count),
-        _ => broken_address(),
-    }
+    let Value::Array { start, count } = value_at(s, at) else {
+        return Err(Refusal::Type);
+    };
+    address_members(s, start, count)
 }

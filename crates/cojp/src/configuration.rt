@@ -9,7 +9,7 @@ use crate::key_set::{KeysParameter, no_key_set};
 use crate::list::{ListParameter, no_list};
 use crate::octets::{OctetsParameter, no_octets};
 use crate::rate::{RateParameter, no_rate};
-use refusal::Verdict;
+use refusal::Refusal;
 
 // What does not belong to a form (crate::version) is absent in it. `came` has the known labels of a published payload in their order, each
 // as the report that it would get; `unknown` labels were passed over.
@@ -27,9 +27,10 @@ pub struct Configuration {
 }
 
 // Beside a refusal stands the empty configuration.
+// Kept: document 01 asks for the empty object beside a refusal's number, and `ReadersDemand1` (specs/Laws.antt) speaks of both.
 #[derive(Clone, Copy)]
 pub struct ConfigurationRead {
-    pub verdict: Verdict,
+    pub verdict: Result<(), Refusal>,
     pub configuration: Configuration,
 }
 
@@ -37,21 +38,16 @@ pub struct ConfigurationRead {
 pub fn empty_configuration() -> Configuration
     ensures { result ≡ empty_configuration }
 {
-    let keys = no_key_set(Disposition::Absent);
-    let address = no_address(Disposition::Absent);
     let octets = no_octets(Disposition::Absent);
-    let blacklist = no_list(Disposition::Absent);
-    let rate = no_rate(Disposition::Absent);
-    let met = no_error_reports();
     Configuration {
-        keys: keys,
-        address: address,
+        keys: no_key_set(Disposition::Absent),
+        address: no_address(Disposition::Absent),
         jrc: octets,
         network: octets,
         prefix: octets,
-        blacklist: blacklist,
-        rate: rate,
-        labels: met,
+        blacklist: no_list(Disposition::Absent),
+        rate: no_rate(Disposition::Absent),
+        labels: no_error_reports(),
         unknown: 0,
     }
 }

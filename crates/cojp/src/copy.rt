@@ -7,20 +7,9 @@ pub fn copied(s: &[u8], at: usize, n: usize) -> [u8; 16]
     ensures { result ≡ copied_from s.now at n }
 {
     let mut out = [0u8; 16];
-    if 16 < n {
+    if 16 < n || s.len() < at || s.len() - at < n {
         return out;
     }
-    let len = s.len();
-    if len < at {
-        return out;
-    }
-    if len - at < n {
-        return out;
-    }
-    let mut i = 0;
-    while i < n {
-        out[i] = s[at + i];
-        i += 1;
-    }
+    out[..n].copy_from_slice(&s[at..at + n]);
     out
 }

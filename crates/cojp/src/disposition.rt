@@ -3,7 +3,7 @@ ghost use Rattle.std.specs.Prelude.{◌≡◌, true, false};
 ghost use Rattle.cojp.specs.Reading.{if_taken};
 
 // Not in the payload, taken from it, or in it and discarded: in the published form that is a bad one, which is reported.
-#[derive(Clone, Copy)]
+#[derive(Clone, Copy, PartialEq, Eq)]
 pub enum Disposition {
     Absent,
     Taken,
@@ -14,9 +14,5 @@ pub enum Disposition {
 pub fn is_taken(disposition: Disposition) -> bool
     ensures { result ≡ if_taken disposition true false }
 {
-    match disposition {
-        Disposition::Absent => false,
-        Disposition::Taken => true,
-        Disposition::Discarded => false,
-    }
+    disposition == Disposition::Taken
 }

@@ -10,6 +10,7 @@ pub struct ErrorReport {
 }
 
 // The first `count` of them; an object has at most five parameters.
+// Kept: no heap; C stores it in its images at fixed places (crates/object_image).
 #[derive(Clone, Copy)]
 pub struct ErrorReports {
     pub count: usize,
@@ -20,20 +21,16 @@ pub struct ErrorReports {
 pub fn error_report_of(code: u8, label: u8) -> ErrorReport
     ensures { result ≡ error_report_of code label }
 {
-    ErrorReport {
-        code: code,
-        label: label,
-    }
+    ErrorReport { code, label }
 }
 
 // None.
 pub fn no_error_reports() -> ErrorReports
     ensures { result ≡ no_error_reports }
 {
-    let none = error_report_of(0, 0);
     ErrorReports {
         count: 0,
-        reports: [none; 5],
+        reports: [error_report_of(0, 0); 5],
     }
 }
 
@@ -43,10 +40,7 @@ impl ErrorReports {
         ensures exact { result ≡ length (error_report_list self) }
         ensures few { result ≤ 5 }
     {
-        if self.count <= 5 {
-            return self.count;
-        }
-        5
+        self.count.min(5)
     }
 
     // One more at the end; where there are five already nothing is added.

@@ -5,7 +5,7 @@ ghost use Rattle.cojp.specs.KeySet.{no_keys_parameter};
 use crate::disposition::Disposition;
 use link_key::set::KeySet;
 use link_key::set::key_set::no_keys;
-use refusal::Verdict;
+use refusal::Refusal;
 
 // The value counts where it is taken.
 #[derive(Clone, Copy)]
@@ -14,10 +14,11 @@ pub struct KeysParameter {
     pub value: KeySet,
 }
 
+// Kept: `cojp_read` stores the set as it was read; a set that is handed on is copied at each step, a tenth of a short read.
 // Beside a refusal the parameter is absent, and `next`, where the bytes go on after the value, is 0.
 #[derive(Clone, Copy)]
 pub struct KeysRead {
-    pub verdict: Verdict,
+    pub verdict: Result<(), Refusal>,
     pub parameter: KeysParameter,
     pub next: usize,
 }
@@ -26,9 +27,8 @@ pub struct KeysRead {
 pub fn no_key_set(report: Disposition) -> KeysParameter
     ensures { result ≡ no_keys_parameter report }
 {
-    let none = no_keys();
     KeysParameter {
         disposition: report,
-        value: none,
+        value: no_keys(),
     }
 }

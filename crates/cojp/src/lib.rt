@@ -23,7 +23,7 @@ ghost use Rattle.cojp.specs.InRange.{ReadsInRange, ErrorReportsValid};
 ghost use Rattle.cojp.specs.PublishedExamples.{PublishedExamples};
 ghost use Rattle.cojp.specs.Laws.{ReadersDemand1, StrictReaders};
 
-pub use address::{AddressParameter, AddressRead, ShortAddress, no_address, read_address};
+pub use address::{AddressParameter, ShortAddress, no_address, read_address};
 pub use configuration::{Configuration, ConfigurationRead, empty_configuration};
 pub use copy::copied;
 pub use disposition::{Disposition, is_taken};
@@ -31,7 +31,7 @@ pub use error_report::{ErrorReport, ErrorReports, error_report_of, no_error_repo
 pub use key_set::{KeysParameter, KeysRead, no_key_set};
 pub use list::{ItemList, ListParameter, ListRead, no_list};
 pub use members::{Member, member_at};
-pub use octets::{Octets, OctetsParameter, OctetsRead, no_octets, read_octets};
+pub use octets::{Octets, OctetsParameter, no_octets, read_octets};
 pub use parameter::{Parameter, parameter_of};
 pub use rate::{RateParameter, no_rate, read_rate};
 pub use reported::error_reports_of;

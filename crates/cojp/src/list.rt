@@ -5,6 +5,7 @@ ghost use Rattle.cojp.specs.Lists.{no_list_parameter};
 use crate::disposition::Disposition;
 
 // `count` members in the first `len` bytes, shortest heads one after another.
+// Kept: no heap; C stores it in its images at fixed places (crates/object_image).
 #[derive(Clone, Copy)]
 pub struct ItemList {
     pub count: u64,
@@ -13,6 +14,7 @@ pub struct ItemList {
 }
 
 // Beside a list that is not good stands the empty one.
+// Kept: the law `ListRoundTrip` (cojp_list/specs/Laws.antt) speaks of both.
 #[derive(Clone, Copy)]
 pub struct ListRead {
     pub good: bool,
@@ -30,14 +32,12 @@ pub struct ListParameter {
 pub fn no_list(report: Disposition) -> ListParameter
     ensures { result ≡ no_list_parameter report }
 {
-    let zeros = [0u8; 253];
-    let value = ItemList {
-        count: 0,
-        len: 0,
-        bytes: zeros,
-    };
     ListParameter {
-        value: value,
+        value: ItemList {
+            count: 0,
+            len: 0,
+            bytes: [0u8; 253],
+        },
         disposition: report,
     }
 }

@@ -18,16 +18,9 @@ pub fn member_at(s: &[u8], at: usize, left: u64) -> Member
     if left == 0 {
         return Member::Neither;
     }
-    let v = value_at(s, at);
-    match v {
-        Value::Number { number, next } => Member::Number {
-            number: number,
-            next: next,
-        },
-        Value::Bytes { start, len } => Member::Bytes {
-            start: start,
-            len: len,
-        },
+    match value_at(s, at) {
+        Value::Number { number, next } => Member::Number { number, next },
+        Value::Bytes { start, len } => Member::Bytes { start, len },
         _ => Member::Neither,
     }
 }

@@ -1,18 +1,19 @@
 // Network identifiers, network prefixes and JRC addresses: byte strings of at most 16 bytes.
 ghost use Rattle.std.specs.Prelude.{◌≡◌, drop};
-ghost use Rattle.cojp.specs.Bytes.{value_view, after_value, EndsAt};
-ghost use Rattle.cojp.specs.Octets.{no_octets_parameter, octets_read, octets_answer};
-ghost use Rattle.cojp.specs.Reading.{read, Accepting};
+ghost use Rattle.cojp.specs.Bytes.{value_view, after_value, Continues};
+ghost use Rattle.cojp.specs.Octets.{no_octets_parameter, octets_read};
+ghost use Rattle.cojp.specs.Reading.{read_by};
 
 use crate::copy::copied;
 use crate::disposition::Disposition;
 use cbor::{Value, value_at};
-use refusal::{Refusal, Verdict};
+use refusal::Refusal;
 
 // The most bytes that such a value has.
 const MOST: usize = 16;
 
 // The first `len` bytes; zeros stand after them in a value that we make.
+// Kept: no heap; C stores it in its images at fixed places (crates/object_image).
 #[derive(Clone, Copy)]
 pub struct Octets {
     pub len: usize,
@@ -26,26 +27,16 @@ pub struct OctetsParameter {
     pub value: Octets,
 }
 
-// `next` is where the bytes go on after the value. Beside a refusal the parameter is absent and `next` is 0.
-#[derive(Clone, Copy)]
-pub struct OctetsRead {
-    pub verdict: Verdict,
-    pub parameter: OctetsParameter,
-    pub next: usize,
-}
-
 // A parameter with no value.
 pub fn no_octets(report: Disposition) -> OctetsParameter
     ensures { result ≡ no_octets_parameter report }
 {
-    let zeros = [0u8; 16];
-    let value = Octets {
-        len: 0,
-        bytes: zeros,
-    };
     OctetsParameter {
         disposition: report,
-        value: value,
+        value: Octets {
+            len: 0,
+            bytes: [0u8; 16],
+        },
     }
 }
 
@@ -60,65 +51,38 @@ impl OctetsParameter {
         let bytes = held.bytes;
         let value = Octets {
             len: held.len,
-            bytes: bytes,
+            bytes,
         };
         OctetsParameter {
             disposition: report,
-            value: value,
+            value,
         }
     }
 }
 
-// The byte string of `least` to 16 bytes at a place of a payload that passed the item scan; of other bytes it says what `value_view` makes
-// of them.
-pub fn read_octets(s: &[u8], at: usize, least: usize) -> OctetsRead
-    ensures value { result ≡ octets_answer (octets_read least (value_view (drop at s.now))) result.next }
-    ensures rest { Accepting result.verdict (EndsAt s.now result.next (after_value (drop at s.now))) }
+// The byte string of `least` to 16 bytes at a place of a payload that passed the item scan, and where the bytes go on after it; one of
+// another length is discarded. Of other bytes it says what `value_view` makes of them.
+pub fn read_octets(s: &[u8], at: usize, least: usize) -> Result<(OctetsParameter, usize), Refusal>
+    ensures value { read_by result ≡ octets_read least (value_view (drop at s.now)) }
+    ensures rest { Continues s.now result (after_value (drop at s.now)) }
 {
-    let v = value_at(s, at);
-    match v {
-        Value::Bytes { start, len } => {
-            let next = start + len;
-            if len < least {
-                return discarded(next);
-            }
-            if MOST < len {
-                return discarded(next);
-            }
-            let bytes = copied(s, start, len);
-            let value = Octets {
-                len: len,
-                bytes: bytes,
-            };
-            let parameter = OctetsParameter {
-                disposition: Disposition::Taken,
-                value: value,
-            };
-            OctetsRead {
-                verdict: Verdict::Accepted,
-                parameter: parameter,
-                next: next,
-            }
-        }
-        _ => {
-            let parameter = no_octets(Disposition::Absent);
-            OctetsRead {
-                verdict: Verdict::Refused(Refusal::Type),
-                parameter: parameter,
-                next: 0,
-            }
-        }
+    let Value::Bytes { start, len } = value_at(s, at) else {
+        return Err(Refusal::Type);
+    };
+    let next = start + len;
+    if len < least {
+        return Ok((no_octets(Disposition::Discarded), next));
     }
-}
-
-// A byte string whose length is outside the limits.
-fn discarded(next: usize) -> OctetsRead
-    ensures { result ≡ octets_answer (read (no_octets_parameter Disposition.Discarded)) next }
-{
-    let parameter = no_octets(Disposition::Discarded);
-    OctetsRead {
-        verdict: Verdict::Accepted,
-        parameter: parameter,
-        next: next,
+    if MOST < len {
+        return Ok((no_octets(Disposition::Discarded), next));
     }
+    let value = Octets {
+        len,
+        bytes: copied(s, start, len),
+    };
+    let parameter = OctetsParameter {
+        disposition: Disposition::Taken,
+        value,
+    };
+    Ok((parameter, next))
 }

@@ -27,9 +27,8 @@ pub fn no_rate(report: Disposition) -> RateParameter
 pub fn read_rate(s: &[u8], at: usize) -> RateParameter
     ensures { result ≡ rate_taken (value_view (drop at s.now)) }
 {
-    let v = value_at(s, at);
-    match v {
-        Value::Number { number, next: _ } => RateParameter {
+    match value_at(s, at) {
+        Value::Number { number, .. } => RateParameter {
             disposition: Disposition::Taken,
             value: number,
         },

@@ -13,11 +13,7 @@ use protocol_version::Version;
 fn is_bad(report: Disposition) -> bool
     ensures { result ≡ is_bad report }
 {
-    match report {
-        Disposition::Absent => false,
-        Disposition::Taken => false,
-        Disposition::Discarded => true,
-    }
+    report == Disposition::Discarded
 }
 
 // Which parameters of a published configuration were bad.
@@ -34,22 +30,12 @@ struct Bad {
 fn bad_in(c: Configuration) -> Bad
     ensures { result ≡ bad_in c }
 {
-    let keys = c.keys;
-    let keys_report = keys.disposition;
-    let address = c.address;
-    let address_report = address.disposition;
-    let jrc = c.jrc;
-    let jrc_report = jrc.disposition;
-    let blacklist = c.blacklist;
-    let blacklist_report = blacklist.disposition;
-    let rate = c.rate;
-    let rate_report = rate.disposition;
     Bad {
-        keys: is_bad(keys_report),
-        address: is_bad(address_report),
-        jrc: is_bad(jrc_report),
-        blacklist: is_bad(blacklist_report),
-        rate: is_bad(rate_report),
+        keys: is_bad(c.keys.disposition),
+        address: is_bad(c.address.disposition),
+        jrc: is_bad(c.jrc.disposition),
+        blacklist: is_bad(c.blacklist.disposition),
+        rate: is_bad(c.rate.disposition),
     }
 }
 
@@ -74,9 +60,7 @@ fn bad_at(bad: Bad, label: u8) -> bool
 pub fn error_reports_of(c: Configuration) -> ErrorReports
     ensures { result ≡ error_reports_of c }
 {
-    let bad = bad_in(c);
-    let met = c.labels;
-    met.bad_of(bad)
+    c.labels.bad_of(bad_in(c))
 }
 
 impl ErrorReport {
@@ -96,14 +80,9 @@ impl ErrorReports {
     fn bad_of(self, bad: Bad) -> ErrorReports
         ensures { result ≡ reports_on bad no_error_reports (error_report_list self) }
     {
-        let n = self.len();
-        let faults = self.reports;
         let mut out = no_error_reports();
-        let mut i: usize = 0;
-        while i < n {
-            let f = faults[i];
-            out = f.reported(bad, out);
-            i += 1;
+        for report in &self.reports[..self.len()] {
+            out = report.reported(bad, out);
         }
         out
     }

@@ -8,7 +8,7 @@ use crate::error_report::{ErrorReports, no_error_reports};
 use crate::list::{ListParameter, no_list};
 use crate::octets::{OctetsParameter, no_octets};
 use protocol_version::Version;
-use refusal::Verdict;
+use refusal::Refusal;
 
 // Role 0 is an ordinary node, 1 the border router (6LBR). In the published form `unsupported` has what a node could not act on, and
 // `faults` what was bad in this request; in the draft both are empty. `unknown` labels were passed over.
@@ -22,9 +22,10 @@ pub struct JoinRequest {
 }
 
 // Beside a refusal stands the empty request.
+// Kept: document 01 asks for the empty object beside a refusal's number, and `ReadersDemand1` (specs/Laws.antt) speaks of both.
 #[derive(Clone, Copy)]
 pub struct RequestRead {
-    pub verdict: Verdict,
+    pub verdict: Result<(), Refusal>,
     pub request: JoinRequest,
 }
 
@@ -39,14 +40,11 @@ pub struct RequestState {
 pub fn empty_request() -> JoinRequest
     ensures { result ≡ empty_request }
 {
-    let network = no_octets(Disposition::Absent);
-    let unsupported = no_list(Disposition::Absent);
-    let faults = no_error_reports();
     JoinRequest {
         role: 0,
-        network: network,
-        unsupported: unsupported,
-        errors: faults,
+        network: no_octets(Disposition::Absent),
+        unsupported: no_list(Disposition::Absent),
+        errors: no_error_reports(),
         unknown: 0,
     }
 }
@@ -62,12 +60,9 @@ fn is_due(version: Version, role: u8) -> bool
 }
 
 // Whether a network identifier is due and none was taken.
+#[tactic(auto, unfolding(crate::specs::Request::owing))]
 pub fn is_owing(version: Version, role: u8, report: Disposition) -> bool
     ensures { result ≡ owing version role report }
 {
-    match report {
-        Disposition::Absent => is_due(version, role),
-        Disposition::Taken => false,
-        Disposition::Discarded => is_due(version, role),
-    }
+    report != Disposition::Taken && is_due(version, role)
 }

@@ -12,35 +12,41 @@ use Rattle.cojp_key_set.specs.Groups.{GroupAt, GroupRest, additional_info_answer
 use Rattle.cojp.specs.Bytes.{members_at, after_members, Neither, MemberAt, MemberSpec}
 use Rattle.cojp.specs.KeySet.{Groups, not_groups, group, groups, identified, used, valued}
 use Rattle.cojp_key_set.specs.declared.group.Group.{Group}
-use Rattle.cojp_key_set.specs.declared.group.Group.TheVariants as gv
-use Rattle.cojp_key_set.specs.declared.additional_info.AdditionalInfoRead.{AdditionalInfoRead}
+use Rattle.std.specs.declared.option.Option.{Option as Found}
+use Rattle.std.specs.declared.option.Option.TheVariants.{None, Some}
+use Rattle.std.specs.Option.{unwrap_or}
+use Rattle.link_key.specs.declared.additional_info.AdditionalInfo.{AdditionalInfo}
 use Rattle.cojp.specs.declared.members.Member.{Member}
 use Rattle.cojp.specs.declared.members.Member.TheVariants as mv
 use Rattle.cojp.proofs.Arrays.{members-some}
-use Rattle.cojp_key_set.proofs.Infos.{info-said}
+use Rattle.cojp_key_set.proofs.Infos.{info-none, info-some}
 
-pub rest-on : (s : List ℕ) (at n q m : ℕ) (r : Group) → after_members n (drop at s) ≡ after_members m (drop q s) → GroupRest s q m r
+-- a group that was read
+abbrev pub closed : (identifier usage start len extra next left : ℕ) → Found Group
+closed i u p a x q m = Some (record { identifier = i; usage = u; start = p; len = a; extra = x; next = q; left = m })
+
+pub rest-on : (s : List ℕ) (at n q m : ℕ) (r : Found Group) → after_members n (drop at s) ≡ after_members m (drop q s) → GroupRest s q m r
     → GroupRest s at n r
-rest-on s at n q m gv.Broken e w = tt
-rest-on s at n q m (gv.Closed i u p a k t j) e w = e ∙ w
+rest-on s at n q m None e w = tt
+rest-on s at n q m (Some g) e w = e ∙ w
 
 module _ (b : Bool) where
   -- the same groups, with more members left
-  regroup : (l : List ℕ) (m n : ℕ) (gs hs : Groups) (r : Group) → m ≤ n → gs ≡ hs → GroupAt b l m hs r → GroupAt b l n gs r
-  regroup l m n gs hs gv.Broken k e w = e ∙ w
-  regroup l m n gs hs (gv.Closed i u p a x q j) k e w = (w.0, w.1, w.2, omega (arith, w.3), e ∙ w.4)
+  regroup : (l : List ℕ) (m n : ℕ) (gs hs : Groups) (r : Found Group) → m ≤ n → gs ≡ hs → GroupAt b l m hs r → GroupAt b l n gs r
+  regroup l m n gs hs None k e w = e ∙ w
+  regroup l m n gs hs (Some g) k e w = (w.0, w.1, w.2, omega (arith, w.3), e ∙ w.4)
 
   module _ (l : List ℕ) (n : ℕ) (v : Member) where
     module _ (h : 0 < n) (e : MemberSpec l 0 n v) where
       pub group-begun :
-          (x p : ℕ) → v ≡ mv.Number x p → (r : Group) → GroupAt b l (n - 1) (identified b x (members_at (n - 1) (drop p l))) r →
+          (x p : ℕ) → v ≡ mv.Number x p → (r : Found Group) → GroupAt b l (n - 1) (identified b x (members_at (n - 1) (drop p l))) r →
           GroupAt b l n (groups b (members_at n l)) r
       unfolding groups
       group-begun x p g r q =
           let w : MemberAt l 0 n (mv.Number x p) = rw g at e.here in
           regroup l (n - 1) n _ _ r (omega arith) (ap (groups b) w.1) q
 
-      pub group-headless : ((x p : ℕ) → v ≡ mv.Number x p → ⊥) → GroupAt b l n (groups b (members_at n l)) gv.Broken
+      pub group-headless : ((x p : ℕ) → v ≡ mv.Number x p → ⊥) → GroupAt b l n (groups b (members_at n l)) None
       unfolding groups
       group-headless o = go v e.here o
         where
@@ -57,7 +63,7 @@ module _ (b : Bool) where
 
     module _ (at i : ℕ) (e : MemberSpec l at n v) where
       pub group-used :
-          (u p : ℕ) → v ≡ mv.Number u p → (r : Group) → GroupAt b l (n - 1) (used b i u (members_at (n - 1) (drop p l))) r →
+          (u p : ℕ) → v ≡ mv.Number u p → (r : Found Group) → GroupAt b l (n - 1) (used b i u (members_at (n - 1) (drop p l))) r →
           GroupAt b l n (identified b i (members_at n (drop at l))) r
       unfolding groups
       group-used u p g r q =
@@ -65,7 +71,7 @@ module _ (b : Bool) where
           regroup l (n - 1) n _ _ r (omega arith) (ap (identified b i) w.1) q
 
       pub group-pair :
-          (p a : ℕ) → v ≡ mv.Bytes p a → (r : Group) →
+          (p a : ℕ) → v ≡ mv.Bytes p a → (r : Found Group) →
           GroupAt b l (n - 1 + 1) (valued b i 0 (take a (drop p l)) (members_at (n - 1) (drop (p + a) l))) r →
           GroupAt b l n (identified b i (members_at n (drop at l))) r
       unfolding groups
@@ -73,7 +79,7 @@ module _ (b : Bool) where
           let w : MemberAt l at n (mv.Bytes p a) = rw g at e.here in
           regroup l (n - 1 + 1) n _ _ r (omega (arith, w.0)) (ap (identified b i) w.2) q
 
-      pub group-open : v ≡ mv.Neither → GroupAt b l n (identified b i (members_at n (drop at l))) gv.Broken
+      pub group-open : v ≡ mv.Neither → GroupAt b l n (identified b i (members_at n (drop at l))) None
       unfolding groups
       group-open g = go (members_at n (drop at l)) (let w : MemberAt l at n mv.Neither = rw g at e.here in w)
         where
@@ -86,7 +92,7 @@ module _ (b : Bool) where
 
       module _ (u : ℕ) where
         pub group-triple :
-            (p a : ℕ) → v ≡ mv.Bytes p a → (r : Group) →
+            (p a : ℕ) → v ≡ mv.Bytes p a → (r : Found Group) →
             GroupAt b l (n - 1 + 1) (valued b i u (take a (drop p l)) (members_at (n - 1) (drop (p + a) l))) r →
             GroupAt b l n (used b i u (members_at n (drop at l))) r
         unfolding groups
@@ -94,7 +100,7 @@ module _ (b : Bool) where
             let w : MemberAt l at n (mv.Bytes p a) = rw g at e.here in
             regroup l (n - 1 + 1) n _ _ r (omega (arith, w.0)) (ap (used b i u) w.2) q
 
-        pub group-valueless : ((q k : ℕ) → v ≡ mv.Bytes q k → ⊥) → GroupAt b l n (used b i u (members_at n (drop at l))) gv.Broken
+        pub group-valueless : ((q k : ℕ) → v ≡ mv.Bytes q k → ⊥) → GroupAt b l n (used b i u (members_at n (drop at l))) None
         unfolding groups
         group-valueless o = go v e.here o
           where
@@ -121,11 +127,11 @@ module _ (l : List ℕ) (i u p a n : ℕ) (h : p + a ≤ length l) where
 
   -- without additional information the next group begins where the value ends
   value-ends : (b : Bool) → valued b i u value-here left_over ≡ group i u value-here info.Absent (groups b left_over)
-      → GroupAt b l (n + 1) (valued b i u value-here left_over) (gv.Closed i u p a 0 (p + a) n)
+      → GroupAt b l (n + 1) (valued b i u value-here left_over) (closed i u p a 0 (p + a) n)
   value-ends b e = (h, omega arith, h, omega arith, e)
 
   -- in the draft, whatever comes
-  pub value-draft : GroupAt false l (n + 1) (valued false i u value-here left_over) (gv.Closed i u p a 0 (p + a) n)
+  pub value-draft : GroupAt false l (n + 1) (valued false i u value-here left_over) (closed i u p a 0 (p + a) n)
   unfolding groups
   value-draft = value-ends false (go left_over)
     where
@@ -140,7 +146,7 @@ module _ (l : List ℕ) (i u p a n : ℕ) (h : p + a ≤ length l) where
     -- where no byte string comes
     pub value-last :
         ((q k : ℕ) → v ≡ mv.Bytes q k → ⊥) →
-        GroupAt true l (n + 1) (valued true i u value-here left_over) (gv.Closed i u p a 0 (p + a) n)
+        GroupAt true l (n + 1) (valued true i u value-here left_over) (closed i u p a 0 (p + a) n)
     unfolding groups
     value-last o = value-ends true (go v e.here o)
       where
@@ -158,29 +164,28 @@ module _ (l : List ℕ) (i u p a n : ℕ) (h : p + a ≤ length l) where
         go mv.Neither w o = none left_over w
 
     -- where one comes, of k bytes from q on, it is additional information or breaks the pattern
-    module _ (q k : ℕ) (g : v ≡ mv.Bytes q k) (r : AdditionalInfoRead)
-        (f : r ≡ additional_info_answer (additional_info_in (take k (drop q l)))) where
+    module _ (q k : ℕ) (g : v ≡ mv.Bytes q k) where
       info-here : MemberAt l (p + a) n (mv.Bytes q k)
       info-here = rw g at e.here
 
-      pub value-broken : r.good ≡ false → valued true i u value-here left_over ≡ not_groups
+      pub value-broken : None ≡ additional_info_answer (additional_info_in (take k (drop q l))) → valued true i u value-here left_over ≡ not_groups
       unfolding groups
-      value-broken z = rw (info-here.2, info-said r (additional_info_in (take k (drop q l))) f, z)
+      value-broken z = rw (info-here.2, info-none (additional_info_in (take k (drop q l))) (sym z))
 
-      -- it stands right before the place where it ends
-      info-before : additional_info_before l (q + k) k ≡ r.info
-      info-before =
-          let begin : q + k - k ≡ q = omega arith in
-          ap (λ (at : ℕ). (additional_info_answer (additional_info_in (take k (drop at l)))).info) begin
-          ∙ ap (λ (x : AdditionalInfoRead). x.info) (sym f)
+      module _ (x : AdditionalInfo) (z : Some x ≡ additional_info_answer (additional_info_in (take k (drop q l)))) where
+        -- it stands right before the place where it ends
+        info-before : additional_info_before l (q + k) k ≡ x
+        info-before =
+            let begin : q + k - k ≡ q = omega arith in
+            ap (λ (at : ℕ). unwrap_or (additional_info_answer (additional_info_in (take k (drop at l)))) info.Absent) begin
+            ∙ ap (λ (y : Found AdditionalInfo). unwrap_or y info.Absent) (sym z)
 
-      pub value-allowed :
-          r.good ≡ true → GroupAt true l (n + 1) (valued true i u value-here left_over) (gv.Closed i u p a k (q + k) (n - 1))
-      unfolding groups
-      value-allowed z = (
-        h,
-        omega arith,
-        info-here.1,
-        omega arith,
-        rw (info-before, info-here.2, info-said r (additional_info_in (take k (drop q l))) f, z),
-      )
+        pub value-allowed : GroupAt true l (n + 1) (valued true i u value-here left_over) (closed i u p a k (q + k) (n - 1))
+        unfolding groups
+        value-allowed = (
+          h,
+          omega arith,
+          info-here.1,
+          omega arith,
+          rw (info-before, info-here.2, info-some (additional_info_in (take k (drop q l))) x (sym z)),
+        )

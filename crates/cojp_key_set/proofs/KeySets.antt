@@ -12,21 +12,20 @@ use Rattle.refusal.specs.declared.Refusal.TheVariants as refusal
 use Rattle.cbor.specs.View.{ValueSpec}
 use Rattle.cbor.specs.declared.value.Value.{Value}
 use Rattle.cbor.specs.declared.value.Value.TheVariants as vv
-use Rattle.link_key.specs.AdditionalInfo.{additional_info_in}
 use Rattle.link_key.specs.Key.{key_with_additional_info, no_key, valid_key}
 use Rattle.link_key.specs.set.KeySet.{no_keys, all_valid, none_twice, each_once, valid_keys}
 use Rattle.link_key.specs.set.Seen.{joins, Exactly, OneMore, WithOneMore}
 use Rattle.link_key.specs.declared.Key.{Key}
 use Rattle.link_key.specs.declared.additional_info.AdditionalInfo.{AdditionalInfo}
 use Rattle.link_key.specs.declared.set.key_set.KeySet.{KeySet}
-use Rattle.cojp_key_set.specs.Groups.{GroupAt, GroupRest, additional_info_answer, additional_info_before, storable, some_few}
+use Rattle.cojp_key_set.specs.Groups.{GroupAt, GroupRest, additional_info_before, storable, some_few}
 use Rattle.cojp.specs.Bytes.{value_view, members_at, after_members, EndsAt}
 use Rattle.cojp.specs.KeySet.{key_set_of, Groups, not_groups, groups_of, group, groups, keys_in, keys_concluded, keys_read_as}
 use Rattle.cojp.specs.Octets.{padded, copied_from}
 use Rattle.cojp.specs.Reading.{Reading, refused, unfit, good}
 use Rattle.cojp_key_set.specs.declared.group.Group.{Group}
-use Rattle.cojp_key_set.specs.declared.group.Group.TheVariants as gv
-use Rattle.cojp_key_set.specs.declared.additional_info.AdditionalInfoRead.{AdditionalInfoRead}
+use Rattle.std.specs.declared.option.Option.{Option as Found}
+use Rattle.std.specs.declared.option.Option.TheVariants.{None, Some}
 use Rattle.cojp.specs.declared.key_set.KeysParameter.{KeysParameter}
 use Rattle.lemmas.specs.logic.Tests.{both_left, both_right}
 use Rattle.cojp.proofs.Arrays.{nothing_left, members-none, array-here, scalar-here}
@@ -196,7 +195,7 @@ module _ (allowed : Bool) (s : List ℕ) (from count at n : ℕ) (k : KeySet) (s
   pub gathering-end : n ≤ 0 → EndsAt s at (after_members count (drop from s))
   gathering-end h = record { rest = sym (w.rest ∙ nothing_left n (drop at s) (omega arith)); inside = w.inside }
 
-  module _ (r : Group)
+  module _ (r : Found Group)
       (g : GroupAt allowed (take (length s - at) (drop at s)) n (groups allowed (members_at n (take (length s - at) (drop at s)))) r) where
     part : take (length s - at) (drop at s) ≡ drop at s
     part = take_all (length s - at) (drop at s) (omega (arith, length-drop at s))
@@ -204,66 +203,64 @@ module _ (allowed : Bool) (s : List ℕ) (from count at n : ℕ) (k : KeySet) (s
     here-group : GroupAt allowed (drop at s) n (groups allowed (members_at n (drop at s))) r
     here-group = rw part at g
 
-    pub gathering-broken : r ≡ gv.Broken → (x : Reading KeysParameter) → x ≡ refused refusal.«Type»
+    pub gathering-broken : r ≡ None → (x : Reading KeysParameter) → x ≡ refused refusal.«Type»
         → x ≡ keys_concluded (keys_in (groups allowed (members_at count (drop from s))))
     gathering-broken e x f =
         let b : groups allowed (members_at n (drop at s)) ≡ not_groups = rw e at here-group in
         f ∙ rw (w.so_far, b)
 
     -- a closed group: a bytes of value from p on, o bytes of additional information right before its end q
-    module _ (i u p a o q m : ℕ) (e : r ≡ gv.Closed i u p a o q m) where
-      closed : GroupAt allowed (drop at s) n (groups allowed (members_at n (drop at s))) (gv.Closed i u p a o q m)
+    module _ (t : Group) (e : r ≡ Some t) where
+      closed : GroupAt allowed (drop at s) n (groups allowed (members_at n (drop at s))) (Some t)
       closed = rw e at here-group
 
-      pub group-within : p + a ≤ length (take (length s - at) (drop at s))
+      pub group-within : t.start + t.len ≤ length (take (length s - at) (drop at s))
       group-within = rw part closed.0
 
-      pub group-inside : (at + q ≤ length s) × (m < n)
+      pub group-inside : (at + t.next ≤ length s) × (t.left < n)
       group-inside = (omega (arith, closed.2, length-drop at s, w.inside), closed.3)
 
       -- the additional information stands before the place where the group ends, and inside the part
-      pub info-within : (o ≤ q) × (q - o + o ≤ length (take (length s - at) (drop at s)))
-      info-within = (closed.1, rw part (omega (arith, closed.1, closed.2)))
+      pub info-within : (t.extra ≤ t.next) × (t.next ≤ length (take (length s - at) (drop at s)))
+      info-within = (closed.1, rw part closed.2)
 
       module _ (y : GroupRest (take (length s - at) (drop at s)) 0 n r) where
         abbrev read : Key
-        read = key_with_additional_info i u (take a (drop p (take (length s - at) (drop at s))))
-            (additional_info_before (take (length s - at) (drop at s)) q o)
+        read = key_with_additional_info t.identifier t.usage (take t.len (drop t.start (take (length s - at) (drop at s))))
+            (additional_info_before (take (length s - at) (drop at s)) t.next t.extra)
 
         gathering-more : (x : KeySet) (seen' : List ℕ) → Holds (w.keys ++ (read ∷ [])) seen' x
-            → Gathering allowed s from count (at + q) m x seen'
+            → Gathering allowed s from count (at + t.next) t.left x seen'
         gathering-more x seen' h =
-            let v : List ℕ = take a (drop p (drop at s)) in
-            let f : AdditionalInfo = additional_info_before (drop at s) q o in
-            let z : GroupRest (drop at s) 0 n (gv.Closed i u p a o q m) = rw e at (rw part at y) in
+            let v : List ℕ = take t.len (drop t.start (drop at s)) in
+            let f : AdditionalInfo = additional_info_before (drop at s) t.next t.extra in
+            let z : GroupRest (drop at s) 0 n (Some t) = rw e at (rw part at y) in
             record {
-              keys = w.keys ++ (key_with_additional_info i u v f ∷ []);
+              keys = w.keys ++ (key_with_additional_info t.identifier t.usage v f ∷ []);
               holds = rw part at h;
               so_far =
                   w.so_far
-                  ∙ rw (closed.4, drop-drop q at s) (after_more w.keys i u v f (groups allowed (members_at m (drop (at + q) s))));
+                  ∙ rw (closed.4, drop-drop t.next at s)
+                  (after_more w.keys t.identifier t.usage v f (groups allowed (members_at t.left (drop (at + t.next) s))));
               inside = group-inside.0;
-              rest = w.rest ∙ z ∙ ap (after_members m) (drop-drop q at s);
+              rest = w.rest ∙ z ∙ ap (after_members t.left) (drop-drop t.next at s);
             }
 
         pub gathering-stored : k.count < 8
-            → (x : AdditionalInfoRead)
-            → x ≡ additional_info_answer (additional_info_in (take o (drop (q - o) (take (length s - at) (drop at s)))))
-            → (j : Key) → j ≡ key_with_additional_info i u (take a (drop p (take (length s - at) (drop at s)))) x.info
+            → (j : Key) → j ≡ read
             → (seen' : List ℕ) → WithOneMore seen j (joins seen j) seen'
             → (c : ℕ) → c ≡ cond (joins seen j) (k.count + 1) 9
-            → Gathering allowed s from count (at + q) m (record { count = c; keys = set k.keys k.count j }) seen'
-        gathering-stored h x told j made seen' more c z =
-            let f : j ≡ read = made ∙ rw told in
+            → Gathering allowed s from count (at + t.next) t.left (record { count = c; keys = set k.keys k.count j }) seen'
+        gathering-stored h j f seen' more c z =
             rw z
             (gathering-more (record { count = cond (joins seen j) (k.count + 1) 9; keys = set k.keys k.count j }) seen'
             (rw (← f) (holds-stored w.keys j seen k w.holds h (joins seen j) seen' (more w.keys))))
 
-        pub gathering-nine : (ltb k.count 8 && storable i u a) ≡ false
-            → Gathering allowed s from count (at + q) m (record { count = 9; keys = k.keys }) seen
+        pub gathering-nine : (ltb k.count 8 && storable t.identifier t.usage t.len) ≡ false
+            → Gathering allowed s from count (at + t.next) t.left (record { count = 9; keys = k.keys }) seen
         gathering-nine f =
             gathering-more (record { count = 9; keys = k.keys }) seen
-            (holds-nine w.keys read seen k w.holds (rw (whole (take (length s - at) (drop at s)) p a group-within) f))
+            (holds-nine w.keys read seen k w.holds (rw (whole (take (length s - at) (drop at s)) t.start t.len group-within) f))
 
 -- ---- the value
 module _ (s : List ℕ) (at : ℕ) (v : Value) (e : ValueSpec s at v) (r : Reading KeysParameter) (allowed : Bool) where

@@ -11,22 +11,19 @@ use cojp::{Member, member_at};
 // information `extra` tells how many bytes it has: 4 or 8, right before `next`, or 0 where there is none. It is read where the key is made:
 // carried here it would be copied with its unused bytes from answer to answer, which takes longer than reading it again.
 #[derive(Clone, Copy)]
-pub enum Group {
-    Broken,
-    Closed {
-        identifier: u64,
-        usage: u64,
-        start: usize,
-        len: usize,
-        extra: usize,
-        next: usize,
-        left: u64,
-    },
+pub struct Group {
+    pub identifier: u64,
+    pub usage: u64,
+    pub start: usize,
+    pub len: usize,
+    pub extra: usize,
+    pub next: usize,
+    pub left: u64,
 }
 
 // The group at the front of a part of the payload, where `left` members are left. `allows_additional_info` tells whether keys may have
 // additional information.
-pub(crate) fn read_group(part: &[u8], left: u64, allowed: bool) -> Group
+pub(crate) fn read_group(part: &[u8], left: u64, allowed: bool) -> Option<Group>
     requires { 0 < left }
     ensures group_at { GroupAt allowed part.now left (groups allowed (members_at left part.now)) result }
     ensures rest { GroupRest part.now 0 left result }
@@ -34,12 +31,18 @@ pub(crate) fn read_group(part: &[u8], left: u64, allowed: bool) -> Group
     let first = member_at(part, 0, left);
     match first {
         Member::Number { number, next } => after_identifier(part, next, left - 1, allowed, number),
-        _ => Group::Broken,
+        _ => None,
     }
 }
 
 // The rest of a group after its identifier: a value, or a usage and a value.
-fn after_identifier(part: &[u8], at: usize, left: u64, allowed: bool, identifier: u64) -> Group
+fn after_identifier(
+    part: &[u8],
+    at: usize,
+    left: u64,
+    allowed: bool,
+    identifier: u64,
+) -> Option<Group>
     ensures group_at { GroupAt allowed part.now left
         (identified allowed identifier (members_at left (drop at part.now))) result }
     ensures rest { GroupRest part.now at left result }
@@ -63,7 +66,7 @@ fn after_identifier(part: &[u8], at: usize, left: u64, allowed: bool, identifier
             identifier,
             0,
         ),
-        Member::Neither => Group::Broken,
+        Member::Neither => None,
     }
 }
 
@@ -75,7 +78,7 @@ fn after_usage(
     allowed: bool,
     identifier: u64,
     usage: u64,
-) -> Group
+) -> Option<Group>
     ensures group_at { GroupAt allowed part.now left
         (used allowed identifier usage (members_at left (drop at part.now))) result }
     ensures rest { GroupRest part.now at left result }
@@ -91,7 +94,7 @@ fn after_usage(
             identifier,
             usage,
         ),
-        _ => Group::Broken,
+        _ => None,
     }
 }
 
@@ -104,7 +107,7 @@ fn after_value(
     allowed: bool,
     identifier: u64,
     usage: u64,
-) -> Group
+) -> Option<Group>
     requires { start + len ≤ length part.now }
     ensures group_at { GroupAt allowed part.now (left + 1)
         (valued allowed identifier usage (take len (drop start part.now))
@@ -119,32 +122,27 @@ fn after_value(
                 start: from,
                 len: n,
             } => {
-                let read = additional_info_at(part, from, n);
-                if !read.good {
-                    return Group::Broken;
-                }
-                let next = from + n;
-                let fewer = left - 1;
-                return Group::Closed {
-                    identifier: identifier,
-                    usage: usage,
-                    start: start,
-                    len: len,
+                additional_info_at(part, from, n)?;
+                return Some(Group {
+                    identifier,
+                    usage,
+                    start,
+                    len,
                     extra: n,
-                    next: next,
-                    left: fewer,
-                };
+                    next: from + n,
+                    left: left - 1,
+                });
             }
             _ => {}
         }
     }
-    Group::Closed {
-        identifier: identifier,
-        usage: usage,
-        start: start,
-        len: len,
+    Some(Group {
+        identifier,
+        usage,
+        start,
+        len,
         extra: 0,
         next: end,
-        left: left,
-    }
+        left,
+    })
 }

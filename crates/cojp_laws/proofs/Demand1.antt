@@ -1,5 +1,6 @@
 -- A plan that is answered by a refusal is that refusal, or bytes that have no room;
 -- each test that refuses gives its number before the next is asked.
+use Rattle.std.specs.Prelude.{Ok, Err}
 use Prim.Native.Nat.{ℕ}
 use mathlib.Core.Path.{◌≡◌, refl, ap}
 use mathlib.Core.Bool.{Bool, true, false, cond, not}
@@ -14,7 +15,6 @@ use Rattle.refusal.specs.declared.Refusal.TheVariants.{Room, Range}
 use Rattle.byte_io.specs.Write.{Plan, refuse, emit, answer, written_says}
 use Rattle.cbor.specs.Encode.{shortest, encode, encode_pairs}
 use Rattle.cbor.specs.Item.{map_item}
-use Rattle.byte_io.specs.declared.WriteResult.TheVariants.{Refused, Length}
 use Rattle.cojp.specs.Reading.{if_taken}
 use Rattle.cojp.specs.Request.{owing}
 use Rattle.cojp.specs.Writing.{octets_pairs, owing_plan, fits, request_pairs, request_in_range, request_plan}
@@ -25,11 +25,11 @@ use Rattle.cojp.specs.declared.disposition.Disposition.TheVariants.{Absent, Take
 use Rattle.cojp_write.specs.octets.Plan.{string_in_range, octets_plan, array_bytes, list_bytes, list_fits, array_plan, list_parameter_plan}
 use Rattle.cojp_laws.specs.Demand1.{number_said, no_room, too_long, Refusing, WritersDemand1}
 
-kept : (b : Bool) (n : ℕ) (k : Refusal) (d e : List ℕ) → cond b (Length n) (Refused Room) ≡ Refused k → cond b e d ≡ d
+kept : (b : Bool) (n : ℕ) (k : Refusal) (d e : List ℕ) → cond b (Ok n) (Err Room) ≡ Err k → cond b e d ≡ d
 kept true n k d e h = absurd (let z : ◌≡◌ {A = ℕ} 0 1 = cc in omega arith)
 kept false n k d e h = refl
 
-unchanged : (plan : Plan) (d : List ℕ) (k : Refusal) → answer plan d ≡ Refused k → Refusing plan d k
+unchanged : (plan : Plan) (d : List ℕ) (k : Refusal) → answer plan d ≡ Err k → Refusing plan d k
 unchanged (refuse j) d k e = record { says = ap written_says e; holds = refl }
 unchanged (emit p) d k e =
     record { says = ap written_says e; holds = kept (leb (length p) (length d)) (length p) k d (p ++ drop (length p) d) e }
@@ -37,7 +37,7 @@ unchanged (emit p) d k e =
 -- ---- the numbers
 -- the number where the bytes have room, and where they have none
 abbrev said : List ℕ → Bool → ℕ
-said p b = (written_says (cond b (Length (length p)) (Refused Room))).0
+said p b = (written_says (cond b (Ok (length p)) (Err Room))).0
 
 room_by : (p d : List ℕ) (b : Bool) → no_room p d ≡ b → number_said (emit p) d ≡ in_order (refused_if b 12 ∷ [])
 room_by p d true e = ap (said p) (lt-leb (length p) (length d) (ltb-true (length d) (length p) e))

@@ -1,5 +1,6 @@
 -- A taken address is in range, and neither of the two is:
 -- so a reading that took one was refused or is in range, and the writer answers RANGE.
+use Rattle.std.specs.Prelude.{Ok, Err}
 use Prim.Native.Nat.{ℕ}
 use native.Mathlib.Omega.{arith}
 use mathlib.Core.Path.{◌≡◌, refl, sym, subst, ◌∙◌}
@@ -7,8 +8,7 @@ use mathlib.Core.Bool.{Bool, true, false, cond, ◌&&◌}
 use mathlib.Core.List.{List}
 use Rattle.refusal.specs.declared.Refusal.{Refusal}
 use Rattle.refusal.specs.declared.Refusal.TheVariants.{Range, Loose}
-use Rattle.refusal.specs.declared.Verdict.{Verdict}
-use Rattle.refusal.specs.declared.Verdict.TheVariants.{Accepted, Refused}
+use Rattle.refusal.specs.Verdict.{Verdict}
 use Rattle.short_address.specs.Address.{is_address, AddressLaws}
 use Rattle.byte_io.specs.Write.{refuse, emit}
 use Rattle.cbor.specs.Decode.{heading}
@@ -49,14 +49,14 @@ module _ (A : AddressLaws) where
   none_written v c p e h = let f = sym (range v c h) ∙ e in let z : ◌≡◌ {A = ℕ} 0 1 = cc in omega arith
 
   -- an answer that is in range where it accepts, and the empty configuration where it refuses
-  answer-none : (v : Version) (r : ConfigurationRead) → (r.verdict ≡ Accepted → InRange v r.configuration)
-      → ((k : Refusal) → r.verdict ≡ Refused k → r.configuration ≡ empty_configuration) → HoldsReserved r.configuration → ⊥
+  answer-none : (v : Version) (r : ConfigurationRead) → (r.verdict ≡ Ok tt → InRange v r.configuration)
+      → ((k : Refusal) → r.verdict ≡ Err k → r.configuration ≡ empty_configuration) → HoldsReserved r.configuration → ⊥
   answer-none v r within empty h = go r.verdict refl
     where
       go : (k : Verdict) → r.verdict ≡ k → ⊥
-      go Accepted e =
+      go (Ok tt) e =
           let f = sym (within e).address ∙ out_of_range r.configuration h in let z : ◌≡◌ {A = ℕ} 0 1 = cc in omega arith
-      go (Refused k) e = empty-none (subst HoldsReserved (empty k e) h)
+      go (Err k) e = empty-none (subst HoldsReserved (empty k e) h)
 
   module _ (R : ReadsInRange) (D : ReadersDemand1) (S : StrictReaders) where
     ordinary-none : (v : Version) (p : List ℕ) → HoldsReserved (read_configuration_as v p).configuration → ⊥

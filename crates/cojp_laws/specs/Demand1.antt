@@ -1,5 +1,5 @@
 -- Demand 1 for the writers: a refusal returns its number and length 0, and leaves every lent byte as it was.
-use Rattle.std.specs.Prelude.{ℕ, ◌≡◌, Bool, not, List, [], ◌∷◌, ltb, length}
+use Rattle.std.specs.Prelude.{ℕ, ◌≡◌, Bool, not, List, [], ◌∷◌, ltb, length, Err}
 use Rattle.refusal.specs.Order.{refused_if, in_order}
 use Rattle.refusal.specs.Refusal.{number_of}
 use Rattle.refusal.specs.declared.Refusal.{Refusal}
@@ -7,7 +7,6 @@ use Rattle.byte_io.specs.Write.{Plan, answer, after, written_says}
 use Rattle.cbor.specs.Answer.{head_plan}
 use Rattle.cbor.specs.Encode.{shortest, encode, encode_pairs}
 use Rattle.cbor.specs.Item.{map_item}
-use Rattle.byte_io.specs.declared.WriteResult.TheVariants.{Refused}
 use Rattle.cojp.specs.Request.{owing}
 use Rattle.cojp.specs.Writing.{octets_pairs, request_pairs, request_in_range, request_plan}
 use Rattle.cojp.specs.Writing.{configuration_pairs, configuration_in_range, configuration_plan}
@@ -36,7 +35,7 @@ pub record Refusing (plan : Plan) (d : List ℕ) (k : Refusal) : Type 0 where
 
 pub record WritersDemand1 : Type 0 where
   -- whatever a writer is asked for
-  pub refusing : (plan : Plan) (d : List ℕ) (k : Refusal) → answer plan d ≡ Refused k → Refusing plan d k
+  pub refusing : (plan : Plan) (d : List ℕ) (k : Refusal) → answer plan d ≡ Err k → Refusing plan d k
   -- ---- the numbers, in the order of the tests: RANGE 13, also of an object that would take more than 256 bytes, OWED 9, ROOM 12
   pub head-number :
       (major n : ℕ) (d : List ℕ) →

@@ -1,9 +1,8 @@
 -- How long a payload can be. The largest configuration of the draft is 232 bytes: none takes more, and one takes as many. In either form no
 -- object takes more than 256: one that would is RANGE when it is written (specs/Written.antt has one of 256 bytes, and one of 257), and a
 -- payload that does is LONG when it is read.
-use Rattle.std.specs.Prelude.{ℕ, ◌≤◌, ◌≡◌, true, List, [], ◌∷◌, length, replicate}
+use Rattle.std.specs.Prelude.{ℕ, ◌≤◌, ◌≡◌, true, List, [], ◌∷◌, length, replicate, Ok}
 use Rattle.refusal.specs.declared.Refusal.TheVariants.{Long}
-use Rattle.refusal.specs.declared.Verdict.TheVariants.{Accepted}
 use Rattle.byte_io.specs.Write.{emit, answer, written_says}
 use Rattle.cbor.specs.Encode.{encode}
 use Rattle.cbor.specs.Item.{map_item}
@@ -72,7 +71,7 @@ blacklisting size = 0xA1 ∷ 0x06 ∷ 0x81 ∷ 0x58 ∷ size ∷ replicate size 
 -- a payload of 256 bytes is read, its list of 253 taken whole; one of 257 is LONG
 pub record LongestRead : Type 0 where
   pub size : length (blacklisting 251) ≡ 256
-  pub accepted : (read_configuration_as Published (blacklisting 251)).verdict ≡ Accepted
+  pub accepted : (read_configuration_as Published (blacklisting 251)).verdict ≡ Ok tt
   pub taken :
       (read_configuration_as Published (blacklisting 251)).configuration.blacklist
       ≡ list_parameter Taken (record { count = 1; len = 253; bytes = 0x58 ∷ 251 ∷ replicate 251 0x0B })

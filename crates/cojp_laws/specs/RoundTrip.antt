@@ -1,10 +1,8 @@
 -- The round trip, in either form: what is written, read strictly or not, reads back as the same object, nothing discarded, reported or
 -- passed over.
-use Rattle.std.specs.Prelude.{ℕ, ◌≡◌, List, Bool, take}
-use Rattle.refusal.specs.declared.Verdict.TheVariants.{Accepted}
+use Rattle.std.specs.Prelude.{ℕ, ◌≡◌, List, Bool, take, Ok}
 use Rattle.byte_io.specs.Write.{emit, answer, after}
 use Rattle.cbor.specs.Strict.{head_by}
-use Rattle.byte_io.specs.declared.WriteResult.TheVariants.{Length}
 use Rattle.cojp.specs.ErrorReports.{no_error_reports}
 use Rattle.cojp.specs.Request.{read_request_by}
 use Rattle.cojp.specs.Configuration.{read_configuration_by}
@@ -24,7 +22,7 @@ Kept r = r ≡ Discarded → ⊥
 
 -- ---- what reading answers, the object being the one that was written
 pub record RequestBack (q : JoinRequest) (r : RequestRead) : Type 0 where
-  pub accepted : r.verdict ≡ Accepted
+  pub accepted : r.verdict ≡ Ok tt
   pub same : SameRequest r.request q
   pub network-kept : Kept r.request.network.disposition
   pub unsupported-kept : Kept r.request.unsupported.disposition
@@ -32,7 +30,7 @@ pub record RequestBack (q : JoinRequest) (r : RequestRead) : Type 0 where
   pub passed : r.request.unknown ≡ 0
 
 pub record ConfigurationBack (c : Configuration) (r : ConfigurationRead) : Type 0 where
-  pub accepted : r.verdict ≡ Accepted
+  pub accepted : r.verdict ≡ Ok tt
   pub same : SameConfiguration r.configuration c
   pub keys_kept : Kept r.configuration.keys.disposition
   pub address_kept : Kept r.configuration.address.disposition
@@ -56,10 +54,10 @@ ConfigurationRoundTrip c =
 -- ---- any destination: where n bytes were written, its first n bytes afterwards
 abbrev pub RequestInPlace : JoinRequest → Type 0
 RequestInPlace q =
-    (v : Version) (d : List ℕ) (n : ℕ) → answer (request_plan v q) d ≡ Length n → (b : Bool) →
+    (v : Version) (d : List ℕ) (n : ℕ) → answer (request_plan v q) d ≡ Ok n → (b : Bool) →
     RequestBack q (read_request_by v (head_by b) (take n (after (request_plan v q) d)))
 
 abbrev pub ConfigurationInPlace : Configuration → Type 0
 ConfigurationInPlace c =
-    (v : Version) (d : List ℕ) (n : ℕ) → answer (configuration_plan v c) d ≡ Length n → (b : Bool) →
+    (v : Version) (d : List ℕ) (n : ℕ) → answer (configuration_plan v c) d ≡ Ok n → (b : Bool) →
     ConfigurationBack c (read_configuration_by v (head_by b) (take n (after (configuration_plan v c) d)))

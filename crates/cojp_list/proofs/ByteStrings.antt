@@ -1,4 +1,6 @@
 -- Byte strings are gathered.
+use Rattle.std.specs.Prelude.{None, Result}
+use Rattle.refusal.specs.declared.Refusal.{Refusal}
 use Prim.Native.Nat.{ℕ, ◌+◌, ◌-◌, ◌≤◌, ◌<◌}
 use mathlib.Core.Path.{◌≡◌, refl}
 use mathlib.Core.List.{List, [], ◌∷◌, append-nil}
@@ -7,7 +9,6 @@ use Rattle.byte_io.specs.Write.{Did, emit}
 use Rattle.cbor.specs.Encode.{encode}
 use Rattle.cbor.specs.Item.{bytes}
 use Rattle.cbor.specs.View.{Scalar, number, minus, string, other, ValueSpec}
-use Rattle.byte_io.specs.declared.WriteResult.{WriteResult}
 use Rattle.cbor.specs.declared.value.Value.{Value}
 use Rattle.cbor.specs.declared.value.Value.TheVariants as vv
 use Rattle.cojp.specs.Bytes.{members_at, value_view, Neither, MemberAt, MemberSpec}
@@ -16,7 +17,6 @@ use Rattle.cojp.specs.declared.members.Member.TheVariants as mv
 use Rattle.cojp.proofs.Arrays.{members-some, array-here, scalar-here}
 use Rattle.cojp.specs.Lists.{Picked, nothing, picked, before, strings_in, written, fitting, in_array, list_answer}
 use Rattle.cojp_list.specs.Gathered.{GatheredAs}
-use Rattle.cojp_list.specs.declared.list.GatherResult.TheVariants as gv
 use Rattle.cojp_list.proofs.Gathering.{Gathering, gathering-bad, Turn}
 
 -- ---- the next member is a byte string, or the pattern is broken
@@ -59,10 +59,10 @@ string-written b = append-nil (encode (bytes b))
 -- ---- one turn: the byte string at p, of a bytes, was written to the lent part
 module _ {whole : Picked} {s d : List ℕ} {at left len members : ℕ} {d' : List ℕ}
     (g : Gathering whole d (strings_in (members_at left (drop at s))) len members d') {v : Member} (e : MemberSpec s at left v) where
-  pub strings-broken : 0 < left → ((p a : ℕ) → ¬ (v ≡ mv.Bytes p a)) → GatheredAs whole d gv.Bad d'
+  pub strings-broken : 0 < left → ((p a : ℕ) → ¬ (v ≡ mv.Bytes p a)) → GatheredAs whole d None d'
   strings-broken h no-string = gathering-bad g (string-broken e h no-string)
 
-  pub strings-turn : {p a : ℕ} → v ≡ mv.Bytes p a → (n : ℕ) → n ≡ a → {r : WriteResult} {q : List ℕ}
+  pub strings-turn : {p a : ℕ} → v ≡ mv.Bytes p a → (n : ℕ) → n ≡ a → {r : Result ℕ Refusal} {q : List ℕ}
       → Did (emit (encode (bytes (take n (drop p s))))) (take (length d' - len) (drop len d')) r q
       → Turn whole d (strings_in (members_at left (drop at s))) len members d' (string (take a (drop p s)) ∷ [])
       (strings_in (members_at (left - 1) (drop (p + a) s))) r q

@@ -1,6 +1,7 @@
 -- Members are gathered one after the other: what was kept so far stands in front of the destination.
+use Rattle.std.specs.Prelude.{Option, Some, None, Result, Ok, Err}
 use Prim.Native.Nat.{ℕ, zero, suc, ◌+◌, ◌-◌, ◌≤◌, ◌<◌}
-use mathlib.Core.Path.{◌≡◌, refl, ap, ◌∙◌}
+use mathlib.Core.Path.{sym, ◌≡◌, refl, ap, ◌∙◌}
 use mathlib.Core.Bool.{true}
 use mathlib.Core.List.{List, [], ◌∷◌, ◌++◌, append_assoc, append-nil}
 use native.Mathlib.Omega.{arith}
@@ -9,8 +10,6 @@ use borrow.Author.Tests.{le-leb, lt-leb}
 use native.Mathlib.Decide.{dec_le}
 use Rattle.refusal.specs.declared.Refusal.{Refusal}
 use Rattle.byte_io.specs.Write.{Did, Wrote, emit}
-use Rattle.byte_io.specs.declared.WriteResult.{WriteResult}
-use Rattle.byte_io.specs.declared.WriteResult.TheVariants as wv
 use Rattle.byte_io.specs.WriteLemmas.{seam, wrote_none, wrote-length, did-done, did-kept, did_never}
 use Rattle.cbor.specs.Encode.{encode, shortest}
 use Rattle.cbor.specs.View.{Scalar, number, minus, string, other}
@@ -20,27 +19,26 @@ use Rattle.cojp.proofs.Arrays.{members-none}
 use Rattle.cojp.specs.Lists.{Picked, nothing, picked, before, fitting, scalar_item, written, list_answer}
 use Rattle.cojp.specs.Octets.{padded}
 use Rattle.cojp.specs.declared.list.ListRead.{ListRead}
-use Rattle.cojp_list.specs.Gathered.{GatheredAs}
-use Rattle.cojp_list.specs.declared.list.GatherResult.{GatherResult}
-use Rattle.cojp_list.specs.declared.list.GatherResult.TheVariants as gv
+use Rattle.cojp_list.specs.Gathered.{GatheredAs, gathered_list}
+use Rattle.cojp_list.specs.declared.list.Gathered.{Gathered}
 
 -- ---- a writer's answer tells whether there was room
-module _ {p d d' : List ℕ} {r : WriteResult} (w : Did (emit p) d r d') where
-  pub did-lacks : (k : Refusal) → r ≡ wv.Refused k → length d < length p
+module _ {p d d' : List ℕ} {r : Result ℕ Refusal} (w : Did (emit p) d r d') where
+  pub did-lacks : (k : Refusal) → r ≡ Err k → length d < length p
   did-lacks k e = go (dec_le (length p) (length d))
     where
       go : Dec (length p ≤ length d) → length d < length p
       go (yes h) = absurd (did_never p d r d' k h w e)
       go (no h) = omega arith
 
-  pub did-fits : (n : ℕ) → r ≡ wv.Length n → (length p ≤ length d) × Wrote p d n d'
+  pub did-fits : (n : ℕ) → r ≡ Ok n → (length p ≤ length d) × Wrote p d n d'
   did-fits n e = go (dec_le (length p) (length d))
     where
       go : Dec (length p ≤ length d) → (length p ≤ length d) × Wrote p d n d'
       go (yes h) = (h, did-done p d r d' n h w e)
       go (no h) =
           let l : length d < length p = omega arith in
-          let f : r ≡ wv.Refused _ = simp (lt-leb (length p) (length d) l) at w.says in
+          let f : r ≡ Err _ = simp (lt-leb (length p) (length d) l) at w.says in
           absurd (let z : ◌≡◌ {A = ℕ} 0 1 = cc in omega arith)
 
   -- the destination keeps its length
@@ -114,7 +112,7 @@ module _ {whole rest : Picked} {d : List ℕ} {len members : ℕ} {d' : List ℕ
   pub gathering-bad : rest ≡ nothing → fitting (length d) whole ≡ nothing
   gathering-bad e = rw (g.pattern, e)
 
-  pub gathering-done : rest ≡ picked [] → GatheredAs whole d (gv.Kept members len) d'
+  pub gathering-done : rest ≡ picked [] → GatheredAs whole d (Some (record { members = members; len = len })) d'
   gathering-done e =
       let all : whole ≡ picked g.so_far = g.pattern ∙ rw (e, append-nil g.so_far) in
       (g.so_far, rw (all, le-leb (length (written g.so_far)) (length d) g.room), g.many, g.wrote)
@@ -153,14 +151,14 @@ gathering-ended f left l e h = let z : left ≡ 0 = omega arith in ap f (members
 
 -- ---- one turn: r is the answer of writing xs to the lent part, which then is q
 module _ (whole : Picked) (d : List ℕ) where
-  pub record Turn (rest : Picked) (len members : ℕ) (d' : List ℕ) (xs : List Scalar) (next : Picked) (r : WriteResult)
+  pub record Turn (rest : Picked) (len members : ℕ) (d' : List ℕ) (xs : List Scalar) (next : Picked) (r : Result ℕ Refusal)
       (q : List ℕ) : Type 0 where
     pub gathering : Gathering whole d rest len members d'
     pub step : rest ≡ before xs next
     pub put : Did (emit (written xs)) (take (length d' - len) (drop len d')) r q
 
 module _ {whole rest : Picked} {d : List ℕ} {len members : ℕ} {d' : List ℕ} {xs : List Scalar} {next : Picked}
-    {r : WriteResult} {q : List ℕ}
+    {r : Result ℕ Refusal} {q : List ℕ}
     (t : Turn whole d rest len members d' xs next r q) where
   lent : length (take (length d' - len) (drop len d')) ≡ length d' - len
   lent = simp (length-take, length-drop) (omega arith)
@@ -171,10 +169,10 @@ module _ {whole rest : Picked} {d : List ℕ} {len members : ℕ} {d' : List ℕ
       simp (length-append, length-take, length-drop)
       (omega (arith, gathering-length t.gathering, gathering-within t.gathering))
 
-  pub turn-full : (k : Refusal) → r ≡ wv.Refused k → fitting (length d) whole ≡ nothing
+  pub turn-full : (k : Refusal) → r ≡ Err k → fitting (length d) whole ≡ nothing
   turn-full k y = gathering-full t.gathering xs next t.step (omega (arith, lent, did-lacks t.put k y))
 
-  module _ (k : ℕ) (y : r ≡ wv.Length k) where
+  module _ (k : ℕ) (y : r ≡ Ok k) where
     turn-room : length (written xs) ≤ length d' - len
     turn-room = omega (arith, lent, (did-fits t.put k y).0)
 
@@ -204,12 +202,19 @@ module _ (q : Picked) (d : List ℕ) (z : d ≡ replicate 253 0) where
       let b : d' ≡ written ps ++ replicate (253 - length (written ps)) 0 = wrote.holds ∙ rw (z, zeros-after (length (written ps)) 253) in
       rw (f', many, wrote.many, b)
 
-  module _ (r : GatherResult) (d' : List ℕ) (w : GatheredAs q d r d') where
-    pub list-bad : r ≡ gv.Bad → fitting 253 q ≡ nothing
-    list-bad e = let v : GatheredAs q d gv.Bad d' = rw e at w in rw (← many-zeros) v
+  module _ (r : Option Gathered) (d' : List ℕ) (w : GatheredAs q d r d') where
+    pub list-bad : r ≡ None → fitting 253 q ≡ nothing
+    list-bad e = let v : GatheredAs q d None d' = rw e at w in rw (← many-zeros) v
 
-    pub list-kept : {m n : ℕ} → r ≡ gv.Kept m n
-        → ◌≡◌ {A = ListRead} (record { good = true; value = record { count = m; len = n; bytes = d' } }) (list_answer (fitting 253 q))
-    list-kept {m} {n} e =
-        let v : GatheredAs q d (gv.Kept m n) d' = rw e at w in
-        kept_by v.0 m n d' v.1 v.2 v.3
+    pub list-kept : {g : Gathered} → r ≡ Some g
+        → ◌≡◌ {A = ListRead} (record { good = true; value = record { count = g.members; len = g.len; bytes = d' } }) (list_answer (fitting 253 q))
+    list-kept {g} e =
+        let v : GatheredAs q d (Some g) d' = rw e at w in
+        kept_by v.0 g.members g.len d' v.1 v.2 v.3
+
+    pub list-read : gathered_list r d' ≡ list_answer (fitting 253 q)
+    list-read = go r refl
+      where
+        go : (x : Option Gathered) → r ≡ x → gathered_list x d' ≡ list_answer (fitting 253 q)
+        go None e = ap list_answer (sym (list-bad e))
+        go (Some g) e = list-kept e

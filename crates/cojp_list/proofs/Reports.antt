@@ -1,4 +1,5 @@
 -- Reports are read, written and gathered.
+use Rattle.std.specs.Prelude.{Option, Some, None, Result, Ok, Err}
 use Prim.Native.Nat.{ℕ, ◌+◌, ◌-◌, ◌≤◌, ◌<◌}
 use mathlib.Core.Path.{◌≡◌, refl, ap, sym, ◌∙◌}
 use mathlib.Core.Bool.{Bool, true, false, cond}
@@ -13,12 +14,8 @@ use Rattle.cbor.specs.Decode.{Outcome, refused, got, decode}
 use Rattle.cbor.specs.Encode.{encode, shortest, extra_of}
 use Rattle.cbor.specs.Item.{Item}
 use Rattle.cbor.specs.View.{Scalar, string, other, scalar_at, and_on, ValueAt, ValueSpec}
-use Rattle.cbor.specs.declared.item.SkipResult.{SkipResult}
-use Rattle.cbor.specs.declared.item.SkipResult.TheVariants as sv
 use Rattle.cbor.specs.declared.value.Value.{Value}
 use Rattle.cbor.specs.declared.value.Value.TheVariants as vv
-use Rattle.byte_io.specs.declared.WriteResult.{WriteResult}
-use Rattle.byte_io.specs.declared.WriteResult.TheVariants as wv
 use Rattle.byte_io.specs.WriteLemmas.{seam, wrote_as, wrote-length, did-emit, did-kept, did-room}
 use Rattle.cbor.specs.HeadLaws.{HeadLaws}
 use Rattle.cbor.specs.ReaderSpecs.{SkipSpec}
@@ -26,24 +23,22 @@ use Rattle.cbor.specs.Writing.{head-did}
 use Rattle.cojp.specs.Bytes.{members_at}
 use Rattle.cojp.proofs.Arrays.{members-none, members_step, members-some}
 use Rattle.cojp.specs.Lists.{Picked, nothing, picked, scalar_item, written, is_integer, integer, error_reports_in, at_least_one}
-use Rattle.cojp_list.specs.Gathered.{NoNumber, IntegerAt, AnyAt, ErrorEntryAt}
+use Rattle.cojp_list.specs.Gathered.{NoNumber, signed, IntegerAt, AnyAt, ErrorEntryAt}
 use Rattle.cojp_list.specs.declared.error_entry.Integer.{Integer}
-use Rattle.cojp_list.specs.declared.error_entry.Integer.TheVariants as iv
 use Rattle.cojp_list.specs.declared.error_entry.ErrorEntry.{ErrorEntry}
-use Rattle.cojp_list.specs.declared.error_entry.ErrorEntry.TheVariants as fv
 use Rattle.cojp_list.specs.declared.error_entry.Position.{Position}
 use Rattle.cojp_list.proofs.Gathering.{Gathering, Turn}
 
 -- ---- which outcome there was, by the answer to passing over an item
-refused-then : (s : List ℕ) (o : Outcome Item) (r : SkipResult) → SkipSpec s o r → (j : Refusal) → r ≡ sv.Refused j → o ≡ refused j
-refused-then s (refused k) r e j g = let z : sv.Refused k ≡ sv.Refused j = sym e.is ∙ g in cc
+refused-then : (s : List ℕ) (o : Outcome Item) (r : Result ℕ Refusal) → SkipSpec s o r → (j : Refusal) → r ≡ Err j → o ≡ refused j
+refused-then s (refused k) r e j g = let z : Err k ≡ Err j = sym e.is ∙ g in cc
 refused-then s (got i t) r e j g =
-    absurd (let f : sv.Next (length s - length t) ≡ sv.Refused j = sym e.is ∙ g in let z : ◌≡◌ {A = ℕ} 0 1 = cc in omega arith)
+    absurd (let f : Ok (length s - length t) ≡ Err j = sym e.is ∙ g in let z : ◌≡◌ {A = ℕ} 0 1 = cc in omega arith)
 
-next-then : (s : List ℕ) (o : Outcome Item) (r : SkipResult) → SkipSpec s o r → (p : ℕ) → r ≡ sv.Next p
+next-then : (s : List ℕ) (o : Outcome Item) (r : Result ℕ Refusal) → SkipSpec s o r → (p : ℕ) → r ≡ Ok p
     → (i : Item) × (o ≡ got i (drop p s))
 next-then s (refused k) r e p g =
-    absurd (let f : sv.Refused k ≡ sv.Next p = sym e.is ∙ g in let z : ◌≡◌ {A = ℕ} 0 1 = cc in omega arith)
+    absurd (let f : Err k ≡ Ok p = sym e.is ∙ g in let z : ◌≡◌ {A = ℕ} 0 1 = cc in omega arith)
 next-then s (got i t) r e p g = let f : t ≡ drop p s = rw g at e.end in (i, ap (got i) f)
 
 -- ---- the returns of `integer_at` and `pass_over`
@@ -52,12 +47,12 @@ module _ (s : List ℕ) (at n : ℕ) where
   integer-end h = rw (members-none n (drop at s) h) tt
 
   module _ (h : ¬ (n ≡ 0)) (v : Value) (e : ValueSpec s at v) where
-    pub integer-number : (x p : ℕ) → v ≡ vv.Number x p → IntegerAt s at n (iv.At false x p)
+    pub integer-number : (x p : ℕ) → v ≡ vv.Number x p → IntegerAt s at n (Some (record { negative = false; number = x }, p))
     integer-number x p g =
         let w : ValueAt 5 s at (vv.Number x p) = rw g at (e.says 5) in
         (omega arith, members_step n (drop at s) (omega arith) ∙ rw (w.rest.1, w.member))
 
-    pub integer-minus : (x p : ℕ) → v ≡ vv.Minus x p → IntegerAt s at n (iv.At true x p)
+    pub integer-minus : (x p : ℕ) → v ≡ vv.Minus x p → IntegerAt s at n (Some (record { negative = true; number = x }, p))
     integer-minus x p g =
         let w : ValueAt 5 s at (vv.Minus x p) = rw g at (e.says 5) in
         (omega arith, members_step n (drop at s) (omega arith) ∙ rw (w.rest.1, w.member))
@@ -80,12 +75,12 @@ module _ (s : List ℕ) (at n : ℕ) where
         go vv.Other w no_number no_minus = none other w.member refl
         go (vv.Minus x p) w no_number no_minus = absurd (no_minus x p refl)
 
-  module _ (h : 0 < n) (k : SkipResult) (e : SkipSpec s (decode 6 (drop at s)) k) where
-    pub any-refused : (j : Refusal) → k ≡ sv.Refused j → AnyAt s at n (record { next = at; left = 0 })
+  module _ (h : 0 < n) (k : Result ℕ Refusal) (e : SkipSpec s (decode 6 (drop at s)) k) where
+    pub any-refused : (j : Refusal) → k ≡ Err j → AnyAt s at n (record { next = at; left = 0 })
     any-refused j g =
         (other, h, members_step n (drop at s) h ∙ rw (refused-then s (decode 6 (drop at s)) k e j g, members-none 0 (drop at s) refl))
 
-    pub any_next : (p : ℕ) → k ≡ sv.Next p → AnyAt s at n (record { next = p; left = n - 1 })
+    pub any_next : (p : ℕ) → k ≡ Ok p → AnyAt s at n (record { next = p; left = n - 1 })
     any_next p g = (scalar_at (drop at s), omega arith, members_step n (drop at s) h ∙ rw (next-then s (decode 6 (drop at s)) k e p g).1)
 
 -- ---- the returns of `after_code` and `error_entry_at`
@@ -93,37 +88,41 @@ integer-is : (b : Bool) (x : ℕ) → is_integer (integer b x) ≡ true
 integer-is true x = refl
 integer-is false x = refl
 
-module _ (s : List ℕ) (at n : ℕ) (i : Integer) (w : IntegerAt s at n i) where
-  module _ (b : Bool) (c : ℕ) where
-    pub code-open : i ≡ iv.NoInteger → error_reports_in (integer b c ∷ members_at n (drop at s)) ≡ nothing
+signed-is : (i : Integer) → is_integer (signed i) ≡ true
+signed-is i = integer-is i.negative i.number
+
+module _ (s : List ℕ) (at n : ℕ) (i : Option (Integer × ℕ)) (w : IntegerAt s at n i) where
+  module _ (code : Integer) where
+    pub code-open : i ≡ None → error_reports_in (signed code ∷ members_at n (drop at s)) ≡ nothing
     unfolding error_reports_in
-    code-open g = let v : IntegerAt s at n iv.NoInteger = rw g at w in go (members_at n (drop at s)) v
+    code-open g = let v : IntegerAt s at n None = rw g at w in go (members_at n (drop at s)) v
       where
-        go : (ps : List Scalar) → NoNumber ps → error_reports_in (integer b c ∷ ps) ≡ nothing
+        go : (ps : List Scalar) → NoNumber ps → error_reports_in (signed code ∷ ps) ≡ nothing
         go [] v = refl
         go (q ∷ []) v = refl
-        go (q ∷ x ∷ r) v = rw (integer-is b c, v)
+        go (q ∷ x ∷ r) v = rw (signed-is code, v)
 
-    module _ {m : Bool} {x p : ℕ} (g : i ≡ iv.At m x p) where
-      label-here : IntegerAt s at n (iv.At m x p)
+    module _ {q : Integer × ℕ} (g : i ≡ Some q) where
+      label-here : IntegerAt s at n (Some q)
       label-here = rw g at w
 
-      pub code-short : n ≡ 1 → error_reports_in (integer b c ∷ members_at n (drop at s)) ≡ nothing
+      pub code-short : n ≡ 1 → error_reports_in (signed code ∷ members_at n (drop at s)) ≡ nothing
       unfolding error_reports_in
-      code-short h = let z : n - 1 ≡ 0 = omega arith in rw (label-here.1, members-none (n - 1) (drop p s) z)
+      code-short h = let z : n - 1 ≡ 0 = omega arith in rw (label-here.1, members-none (n - 1) (drop q.1 s) z)
 
       pub code-left : 1 ≤ n
       code-left = label-here.0
 
-      pub code-whole : (r : Position) → AnyAt s p (n - 1) r
-          → ErrorEntryAt s n (error_reports_in (integer b c ∷ members_at n (drop at s))) (fv.Group b c m x r.next r.left)
+      pub code-whole : (r : Position) → AnyAt s q.1 (n - 1) r
+          → ErrorEntryAt s n (error_reports_in (signed code ∷ members_at n (drop at s)))
+          (Some (record { code = code; label = q.0; next = r.next; left = r.left }))
       unfolding error_reports_in
-      code-whole r (y, l, f) = (omega arith, rw (label-here.1, f, integer-is b c, integer-is m x))
+      code-whole r (y, l, f) = (omega arith, rw (label-here.1, f, signed-is code, signed-is q.0))
 
-  pub fault-headless : 0 < n → i ≡ iv.NoInteger → error_reports_in (members_at n (drop at s)) ≡ nothing
+  pub fault-headless : 0 < n → i ≡ None → error_reports_in (members_at n (drop at s)) ≡ nothing
   unfolding error_reports_in
   fault-headless h g =
-      let v : IntegerAt s at n iv.NoInteger = rw g at w in
+      let v : IntegerAt s at n None = rw g at w in
       let (p, ps, f) = members-some n (drop at s) h in
       rw f (go p ps (rw f at v))
     where
@@ -132,14 +131,14 @@ module _ (s : List ℕ) (at n : ℕ) (i : Integer) (w : IntegerAt s at n i) wher
       go p (q ∷ []) v = refl
       go p (q ∷ x ∷ r) v = rw v
 
-  pub fault-begun : {m : Bool} {x p : ℕ} → i ≡ iv.At m x p → (r : ErrorEntry)
-      → ErrorEntryAt s (n - 1) (error_reports_in (integer m x ∷ members_at (n - 1) (drop p s))) r
+  pub fault-begun : {q : Integer × ℕ} → i ≡ Some q → (r : Option ErrorEntry)
+      → ErrorEntryAt s (n - 1) (error_reports_in (signed q.0 ∷ members_at (n - 1) (drop q.1 s))) r
       → ErrorEntryAt s n (error_reports_in (members_at n (drop at s))) r
-  fault-begun {m} {x} {p} g r v = let l : IntegerAt s at n (iv.At m x p) = rw g at w in go r (ap error_reports_in l.1) v
+  fault-begun {q} g r v = let l : IntegerAt s at n (Some q) = rw g at w in go r (ap error_reports_in l.1) v
     where
-      go : {q t : Picked} (r : ErrorEntry) → q ≡ t → ErrorEntryAt s (n - 1) t r → ErrorEntryAt s n q r
-      go fv.Broken e v = e ∙ v
-      go (fv.Group b c k l p r) e v = (omega (arith, v.0), e ∙ v.1)
+      go : {q t : Picked} (r : Option ErrorEntry) → q ≡ t → ErrorEntryAt s (n - 1) t r → ErrorEntryAt s n q r
+      go None e v = e ∙ v
+      go (Some r) e v = (omega (arith, v.0), e ∙ v.1)
 
 -- ---- a report is written: head after head
 integer-bytes : (b : Bool) (x : ℕ) → encode (scalar_item (integer b x)) ≡ shortest (cond b 1 0) x
@@ -152,7 +151,7 @@ major-most false = omega arith
 
 module _ (H : HeadLaws) where
   -- a head after what was written
-  head-next : {p d d' q : List ℕ} {n k : ℕ} {r : WriteResult} (j x : ℕ) → length p + length (shortest j x) ≤ length d → j ≤ 7
+  head-next : {p d d' q : List ℕ} {n k : ℕ} {r : Result ℕ Refusal} (j x : ℕ) → length p + length (shortest j x) ≤ length d → j ≤ 7
       → k ≡ extra_of x + 1
       → Wrote p d n d' → Did (head_plan j x) (take (length d' - n) (drop n d')) r q
       → Wrote (p ++ shortest j x) d (n + k) (take n d' ++ (q ++ drop (length d' - n) (drop n d')))
@@ -183,11 +182,11 @@ module _ (H : HeadLaws) where
           H.short-head 7 22 (omega arith),
         )
 
-    pub report-room : length d < n + k + 1 → Did (emit (written report)) d (wv.Refused Room) d
+    pub report-room : length d < n + k + 1 → Did (emit (written report)) d (Err Room) d
     report-room h = did-room (written report) d (omega (arith, report-length))
 
     module _ (h : n + k + 1 ≤ length d) (i j : ℕ) (x : i ≡ cond b 1 0) (y : j ≡ cond m 1 0)
-        {r₁ r₂ : WriteResult} {d₁ q₂ : List ℕ} (w₁ : Did (head_plan i c) d r₁ d₁)
+        {r₁ r₂ : Result ℕ Refusal} {d₁ q₂ : List ℕ} (w₁ : Did (head_plan i c) d r₁ d₁)
         (w₂ : Did (head_plan j l) (take (length d₁ - n) (drop n d₁)) r₂ q₂) where
       abbrev d₂ : List ℕ
       d₂ = take n d₁ ++ (q₂ ++ drop (length d₁ - n) (drop n d₁))
@@ -204,8 +203,8 @@ module _ (H : HeadLaws) where
           let v : Did (head_plan (cond m 1 0) l) (take (length d₁ - n) (drop n d₁)) r₂ q₂ = rw y at w₂ in
           head-next (cond m 1 0) l (omega (arith, H.length-head (cond b 1 0) c, H.length-head (cond m 1 0) l)) (major-most m) f first v
 
-      pub report-done : {r₃ : WriteResult} {q₃ : List ℕ} → Did (head_plan 7 22) (take (length d₂ - (n + k)) (drop (n + k) d₂)) r₃ q₃
-          → Did (emit (written report)) d (wv.Length (n + k + 1)) (take (n + k) d₂ ++ (q₃ ++ drop (length d₂ - (n + k)) (drop (n + k) d₂)))
+      pub report-done : {r₃ : Result ℕ Refusal} {q₃ : List ℕ} → Did (head_plan 7 22) (take (length d₂ - (n + k)) (drop (n + k) d₂)) r₃ q₃
+          → Did (emit (written report)) d (Ok (n + k + 1)) (take (n + k) d₂ ++ (q₃ ++ drop (length d₂ - (n + k)) (drop (n + k) d₂)))
       report-done v =
           did-emit (omega (arith, report-length))
           (rw report-bytes
@@ -229,21 +228,21 @@ faults-none = refl
 
 module _ (s : List ℕ) (at left : ℕ) {whole : Picked} {d : List ℕ} {len members : ℕ} {d' : List ℕ}
     (g : Gathering whole d (error_reports_in (members_at left (drop at s))) len members d')
-    (v : ErrorEntry) (e : ErrorEntryAt s left (error_reports_in (members_at left (drop at s))) v) where
-  pub faults-broken : v ≡ fv.Broken → error_reports_in (members_at left (drop at s)) ≡ nothing
-  faults-broken f = let w : ErrorEntryAt s left (error_reports_in (members_at left (drop at s))) fv.Broken = rw f at e in w
+    (v : Option ErrorEntry) (e : ErrorEntryAt s left (error_reports_in (members_at left (drop at s))) v) where
+  pub faults-broken : v ≡ None → error_reports_in (members_at left (drop at s)) ≡ nothing
+  faults-broken f = let w : ErrorEntryAt s left (error_reports_in (members_at left (drop at s))) None = rw f at e in w
 
-  module _ {b : Bool} {c : ℕ} {m : Bool} {l next rest : ℕ} (f : v ≡ fv.Group b c m l next rest) where
-    group-here : ErrorEntryAt s left (error_reports_in (members_at left (drop at s))) (fv.Group b c m l next rest)
+  module _ {x : ErrorEntry} (f : v ≡ Some x) where
+    group-here : ErrorEntryAt s left (error_reports_in (members_at left (drop at s))) (Some x)
     group-here = rw f at e
 
-    pub faults-less : rest < left
+    pub faults-less : x.left < left
     faults-less = group-here.0
 
-    pub faults-turn : {r : WriteResult} {q : List ℕ}
-        → Did (emit (written (integer b c ∷ integer m l ∷ other ∷ []))) (take (length d' - len) (drop len d')) r q
-        → Turn whole d (error_reports_in (members_at left (drop at s))) len members d' (integer b c ∷ integer m l ∷ other ∷ [])
-        (error_reports_in (members_at rest (drop next s))) r q
+    pub faults-turn : {r : Result ℕ Refusal} {q : List ℕ}
+        → Did (emit (written (signed x.code ∷ signed x.label ∷ other ∷ []))) (take (length d' - len) (drop len d')) r q
+        → Turn whole d (error_reports_in (members_at left (drop at s))) len members d' (signed x.code ∷ signed x.label ∷ other ∷ [])
+        (error_reports_in (members_at x.left (drop x.next s))) r q
     faults-turn w = record { gathering = g; step = group-here.1; put = w }
 
 -- at least one

@@ -1,21 +1,17 @@
 // One report of an unsupported configuration (RFC 9031): a code, a label and any item.
 ghost use Rattle.std.specs.Prelude.{◌∷◌, ◌<◌, drop};
 ghost use Rattle.cojp.specs.Bytes.{members_at};
-ghost use Rattle.cojp.specs.Lists.{integer, error_reports_in};
-ghost use Rattle.cojp_list.specs.Gathered.{IntegerAt, AnyAt, ErrorEntryAt};
+ghost use Rattle.cojp.specs.Lists.{error_reports_in};
+ghost use Rattle.cojp_list.specs.Gathered.{IntegerAt, AnyAt, ErrorEntryAt, signed};
 
 use cbor::scan::skip_item;
-use cbor::{SkipResult, Value, value_at};
+use cbor::{Value, value_at};
 
-// An integer, and where the bytes go on after it: -1 - `number` where it is negative.
+// An integer: -1 - `number` where it is negative.
 #[derive(Clone, Copy)]
-enum Integer {
-    NoInteger,
-    At {
-        negative: bool,
-        number: u64,
-        next: usize,
-    },
+pub(crate) struct Integer {
+    pub negative: bool,
+    pub number: u64,
 }
 
 // Where the bytes go on, and how many members are left there.
@@ -27,38 +23,36 @@ struct Position {
 
 // A report: its code, its label, and where the bytes go on after it.
 #[derive(Clone, Copy)]
-pub(crate) enum ErrorEntry {
-    Broken,
-    Group {
-        code_negative: bool,
-        code: u64,
-        label_negative: bool,
-        label: u64,
-        next: usize,
-        left: u64,
-    },
+pub(crate) struct ErrorEntry {
+    pub code: Integer,
+    pub label: Integer,
+    pub next: usize,
+    pub left: u64,
 }
 
-// The integer at a place, where `left` members are left.
-fn integer_at(s: &[u8], at: usize, left: u64) -> Integer
+// The integer at a place, where `left` members are left, and where the bytes go on after it.
+fn integer_at(s: &[u8], at: usize, left: u64) -> Option<(Integer, usize)>
     ensures { IntegerAt s.now at left result }
 {
     if left == 0 {
-        return Integer::NoInteger;
+        return None;
     }
-    let v = value_at(s, at);
-    match v {
-        Value::Number { number, next } => Integer::At {
-            negative: false,
-            number: number,
-            next: next,
-        },
-        Value::Minus { number, next } => Integer::At {
-            negative: true,
-            number: number,
-            next: next,
-        },
-        _ => Integer::NoInteger,
+    match value_at(s, at) {
+        Value::Number { number, next } => {
+            let integer = Integer {
+                negative: false,
+                number,
+            };
+            Some((integer, next))
+        }
+        Value::Minus { number, next } => {
+            let integer = Integer {
+                negative: true,
+                number,
+            };
+            Some((integer, next))
+        }
+        _ => None,
     }
 }
 
@@ -67,57 +61,37 @@ fn pass_over(s: &[u8], at: usize, left: u64) -> Position
     requires { 0 < left }
     ensures { AnyAt s.now at left result }
 {
-    let k = skip_item(s, at, 6, false);
-    match k {
-        SkipResult::Refused(_) => Position { next: at, left: 0 },
-        SkipResult::Next(p) => Position {
-            next: p,
+    match skip_item(s, at, 6, false) {
+        Ok(next) => Position {
+            next,
             left: left - 1,
         },
+        Err(_) => Position { next: at, left: 0 },
     }
 }
 
 // The rest of a report after its code.
-fn after_code(s: &[u8], at: usize, left: u64, negative: bool, code: u64) -> ErrorEntry
-    ensures { ErrorEntryAt s.now left
-        (error_reports_in (integer negative code ∷ members_at left (drop at s.now))) result }
+fn after_code(s: &[u8], at: usize, left: u64, code: Integer) -> Option<ErrorEntry>
+    ensures { ErrorEntryAt s.now left (error_reports_in (signed code ∷ members_at left (drop at s.now))) result }
 {
-    let i = integer_at(s, at, left);
-    match i {
-        Integer::NoInteger => ErrorEntry::Broken,
-        Integer::At {
-            negative: label_negative,
-            number,
-            next,
-        } => {
-            if left == 1 {
-                return ErrorEntry::Broken;
-            }
-            let p = pass_over(s, next, left - 1);
-            ErrorEntry::Group {
-                code_negative: negative,
-                code: code,
-                label_negative: label_negative,
-                label: number,
-                next: p.next,
-                left: p.left,
-            }
-        }
+    let (label, next) = integer_at(s, at, left)?;
+    if left == 1 {
+        return None;
     }
+    let rest = pass_over(s, next, left - 1);
+    Some(ErrorEntry {
+        code,
+        label,
+        next: rest.next,
+        left: rest.left,
+    })
 }
 
 // The report at a place.
-pub(crate) fn error_entry_at(s: &[u8], at: usize, left: u64) -> ErrorEntry
+pub(crate) fn error_entry_at(s: &[u8], at: usize, left: u64) -> Option<ErrorEntry>
     requires { 0 < left }
     ensures { ErrorEntryAt s.now left (error_reports_in (members_at left (drop at s.now))) result }
 {
-    let i = integer_at(s, at, left);
-    match i {
-        Integer::NoInteger => ErrorEntry::Broken,
-        Integer::At {
-            negative,
-            number,
-            next,
-        } => after_code(s, next, left - 1, negative, number),
-    }
+    let (code, next) = integer_at(s, at, left)?;
+    after_code(s, next, left - 1, code)
 }

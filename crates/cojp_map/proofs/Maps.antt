@@ -1,4 +1,5 @@
 -- The pairs of a map, for any object: what is read pair by pair at their places is what is read of the tree.
+use Rattle.std.specs.Prelude.{Result, Ok, Err, Some, None}
 use Prim.Native.Nat.{ℕ, suc, ◌+◌, ◌-◌, ◌≤◌, ◌<◌}
 use mathlib.Core.Path.{◌≡◌, refl, ap, sym, subst, ◌∙◌}
 use mathlib.Core.Bool.{Bool, true, false, cond}
@@ -13,8 +14,7 @@ use Rattle.refusal.specs.Refusal.{number_of}
 use Rattle.refusal.specs.RefusalLemmas.{refused-first}
 use Rattle.refusal.specs.declared.Refusal.{Refusal}
 use Rattle.refusal.specs.declared.Refusal.TheVariants as refusal
-use Rattle.refusal.specs.declared.Verdict.{Verdict}
-use Rattle.refusal.specs.declared.Verdict.TheVariants as verdict
+use Rattle.refusal.specs.Verdict.{Verdict}
 use Rattle.cbor.specs.Answer.{head_answer, skip_answer}
 use Rattle.cbor.specs.Decode.{Outcome, Heading, heading, decode, payload_by}
 use Rattle.cbor.specs.Decode as decode
@@ -22,17 +22,13 @@ use Rattle.cbor.specs.Item.{Item, Pairs, unsigned, negative, bytes, text, array,
 use Rattle.cbor.specs.ReaderSpecs.{LabelSpec, says_label, HeadSpec, says_end, SkipSpec, PairsAt, says_opened, OpenSpec}
 use Rattle.cbor.specs.Strict.{head_by}
 use Rattle.cbor.specs.View.{View, label_of, view_of, if_map, label_at}
-use Rattle.cbor.specs.declared.item.OpenResult.{OpenResult}
-use Rattle.cbor.specs.declared.item.OpenResult.TheVariants as ov
-use Rattle.cbor.specs.declared.item.SkipResult.{SkipResult}
-use Rattle.cbor.specs.declared.item.SkipResult.TheVariants as sv
+use Rattle.cbor.specs.declared.item.MapHead.{MapHead}
+use Rattle.cbor.specs.Answer.{Opened}
 use Rattle.cbor.specs.declared.value.Label.{Label}
 use Rattle.cbor.specs.declared.value.Label.TheVariants as label
 use Rattle.cbor.specs.declared.head.Head.{Head}
-use Rattle.cbor.specs.declared.head.HeadResult.{HeadResult}
-use Rattle.cbor.specs.declared.head.HeadResult.TheVariants as hv
 use Rattle.cojp.specs.Bytes.{value_view, after_value, EndsAt}
-use Rattle.cojp.specs.Reading.{Reading, refused, read, bind, map_reading, result_of, Accepting}
+use Rattle.cojp.specs.Reading.{Reading, refused, read, read_by, bind, map_reading, result_of, Accepting}
 use Rattle.cojp.specs.Walk.{Form, label_status_of, known_read, pair_read, pairs_read, map_read, scanned_read, payload_read_by}
 use Rattle.cojp.specs.declared.disposition.Disposition.{Disposition}
 use Rattle.cojp.specs.declared.disposition.Disposition.TheVariants.{Absent, Taken, Discarded}
@@ -40,13 +36,10 @@ use Rattle.cojp.specs.declared.walk.LabelStatus.{LabelStatus}
 use Rattle.cojp.specs.declared.walk.LabelStatus.TheVariants.{Unknown, First, Repeated}
 use Rattle.cojp.proofs.Nexts.{on-with}
 use Rattle.cojp_map.specs.Pairs.{start_of, start_answer, map_in, pairs_in, says_start, payload_number, map_number, StartSpec}
-use Rattle.cojp_map.specs.Pairs.{labelled_answer, PairLabelSpec, seen, once, walk_at}
-use Rattle.cojp_map.specs.declared.open.PayloadResult.{PayloadResult}
-use Rattle.cojp_map.specs.declared.open.PayloadResult.TheVariants as start
-use Rattle.cojp_map.specs.declared.pair.LabelResult.{LabelResult}
+use Rattle.cojp_map.specs.Pairs.{labelled, PairLabelSpec, seen, once, walk_at}
 
 -- ---- the returns of `open_payload`
-pub start-long : (b : Bool) (s : List ℕ) → 256 < length s → StartSpec b s (start.Refused refusal.Long)
+pub start-long : (b : Bool) (s : List ℕ) → 256 < length s → StartSpec b s (Err refusal.Long)
 unfolding start_answer pairs_in
 start-long b s h = let long = lt-ltb 256 (length s) h in record { is = rw long; number = rw long; says = rw long }
 
@@ -62,65 +55,60 @@ not-map f x (simple n) e = refl
 not-map f x (float w n) e = refl
 
 module _ (b : Bool) (s : List ℕ) (h : length s ≤ 256) where
-  start-says : (p : OpenResult) → says_opened b s p → says_start b s (start_of p)
+  start-says : (p : Opened) → says_opened b s p → says_start b s (start_of p)
   unfolding pairs_in
-  start-says (ov.Refused k) w = rw (le-ltb 256 (length s) h, w)
-  start-says ov.NoMap w = rw (le-ltb 256 (length s) h, w.read) (not-map read (refused refusal.«Type») w.item w.other)
-  start-says (ov.Map n p) w = (w.pairs-are, rw (le-ltb 256 (length s) h, w.read), w.stand)
+  start-says (Err k) w = rw (le-ltb 256 (length s) h, w)
+  start-says (Ok None) w = rw (le-ltb 256 (length s) h, w.read) (not-map read (refused refusal.«Type») w.item w.other)
+  start-says (Ok (Some m)) w = (w.pairs-are, rw (le-ltb 256 (length s) h, w.read), w.stand)
 
-  start-number : (p : OpenResult) → says_opened b s p
+  start-number : (p : Opened) → says_opened b s p
       → payload_number (start_of p)
       ≡ in_order (refused_if (ltb 256 (length s)) (number_of refusal.Long) ∷ map_number (payload_by (head_by b) s) ∷ [])
-  start-number (ov.Refused k) w = rw (le-ltb 256 (length s) h, w) (sym (refused-first k []))
-  start-number ov.NoMap w =
+  start-number (Err k) w = rw (le-ltb 256 (length s) h, w) (sym (refused-first k []))
+  start-number (Ok None) w =
       rw (le-ltb 256 (length s) h, w.read, not-map (λ (ps : Pairs). 0) (number_of refusal.«Type») w.item w.other)
-  start-number (ov.Map n p) w = rw (le-ltb 256 (length s) h, w.read)
+  start-number (Ok (Some m)) w = rw (le-ltb 256 (length s) h, w.read)
 
-  pub start-opened : (o : OpenResult) → OpenSpec b s o → (p : OpenResult) → o ≡ p → StartSpec b s (start_of p)
+  pub start-opened : (o : Opened) → OpenSpec b s o → (p : Opened) → o ≡ p → StartSpec b s (start_of p)
   unfolding start_answer
   start-opened o e p g =
       let w = subst (says_opened b s) g e.says in
       record { is = rw (le-ltb 256 (length s) h, ← e.is, g); number = start-number p w; says = start-says p w }
 
 -- ---- a place that is told after an item, or after a head, is in the payload or at its end
-abbrev skip_place : SkipResult → ℕ
-skip_place (sv.Refused k) = 0
-skip_place (sv.Next p) = p
+abbrev skip_place : Result ℕ Refusal → ℕ
+skip_place (Err k) = 0
+skip_place (Ok p) = p
 
 skip-inside : {A : Type 0} (n : ℕ) (o : Outcome A) → skip_place (skip_answer n o) ≤ n
 skip-inside n (decode.refused k) = omega arith
 skip-inside n (decode.got a t) = omega arith
 
-abbrev head_place : HeadResult → ℕ
-head_place (hv.Refused k) = 0
-head_place (hv.Got h) = h.next
+abbrev head_place : Result Head Refusal → ℕ
+head_place (Err k) = 0
+head_place (Ok h) = h.next
 
 head-inside : (n : ℕ) (o : Outcome Heading) → head_place (head_answer n o) ≤ n
 head-inside n (decode.refused k) = omega arith
 head-inside n (decode.got h t) = omega arith
 
 -- ---- the returns of `item_end`
-module _ (s : List ℕ) (at : ℕ) (k : SkipResult) (e : SkipSpec s (decode 7 (drop at s)) k) where
-  pub end_refused : (j : Refusal) → k ≡ sv.Refused j → EndsAt s (length s) (after_value (drop at s))
+module _ (s : List ℕ) (at : ℕ) (k : Result ℕ Refusal) (e : SkipSpec s (decode 7 (drop at s)) k) where
+  pub end_refused : (j : Refusal) → k ≡ Err j → EndsAt s (length s) (after_value (drop at s))
   end_refused j g = record { rest = drop-length s ∙ sym (subst (says_end s (decode 7 (drop at s))) g e.end); inside = omega arith }
 
-  pub end-next : (p : ℕ) → k ≡ sv.Next p → EndsAt s p (after_value (drop at s))
+  pub end-next : (p : ℕ) → k ≡ Ok p → EndsAt s p (after_value (drop at s))
   end-next p g = record {
     rest = sym (subst (says_end s (decode 7 (drop at s))) g e.end);
     inside = omega (arith, ap skip_place (sym g ∙ e.is), skip-inside (length s) (decode 7 (drop at s)));
   }
 
 -- ---- the returns of `labelled_at`
-told_none : (s l : List ℕ) (r : LabelResult) → r ≡ record { verdict = verdict.Refused refusal.«Type»; label = 0; value = length s }
-    → label_at l ≡ label.NoInteger → PairLabelSpec s l r
-told_none s l r e f = rw e (record { is = rw f; rest = tt })
+module _ (s : List ℕ) (at : ℕ) (r : Result Head Refusal) (e : HeadSpec s at r) where
+  pub told-refused : (k : Refusal) → r ≡ Err k → PairLabelSpec s (drop at s) (Err refusal.«Type»)
+  told-refused k g = record { is = rw (subst (says_label s at) g e.label); rest = tt }
 
-module _ (s : List ℕ) (at : ℕ) (r : HeadResult) (e : HeadSpec s at r) where
-  pub told-refused : (k : Refusal) → r ≡ hv.Refused k → (x : LabelResult)
-      → x ≡ record { verdict = verdict.Refused refusal.«Type»; label = 0; value = length s } → PairLabelSpec s (drop at s) x
-  told-refused k g x f = told_none s (drop at s) x f (subst (says_label s at) g e.label)
-
-  module _ (h : Head) (g : r ≡ hv.Got h) where
+  module _ (h : Head) (g : r ≡ Ok h) where
     here : LabelSpec s at h
     here = subst (says_label s at) g e.label
 
@@ -131,23 +119,22 @@ module _ (s : List ℕ) (at : ℕ) (r : HeadResult) (e : HeadSpec s at r) where
     }
 
     pub told-number : h.major ≡ 0
-        → PairLabelSpec s (drop at s) (record { verdict = verdict.Accepted; label = h.argument; value = h.next })
+        → PairLabelSpec s (drop at s) (Ok (h.argument, h.next))
     told-number m = record { is = rw (here.number m); rest = value_after (omega arith) }
 
-    pub told-negative : h.major ≡ 1 → PairLabelSpec s (drop at s) (record { verdict = verdict.Accepted; label = 0; value = h.next })
+    pub told-negative : h.major ≡ 1 → PairLabelSpec s (drop at s) (Ok (0, h.next))
     told-negative m = record { is = rw (here.negative m); rest = value_after (omega arith) }
 
-    pub told-other : 2 ≤ h.major → (x : LabelResult)
-        → x ≡ record { verdict = verdict.Refused refusal.«Type»; label = 0; value = length s } → PairLabelSpec s (drop at s) x
-    told-other m x f = told_none s (drop at s) x f (here.none m)
+    pub told-other : 2 ≤ h.major → PairLabelSpec s (drop at s) (Err refusal.«Type»)
+    told-other m = record { is = rw (here.none m); rest = tt }
 
 -- ---- what was read is put in its place
 pub put-said : {A B : Type 0} (f : A → B) (v : Verdict) (a : A) (x : Reading A) → result_of v a ≡ x → result_of v (f a) ≡ map_reading f x
 put-said {A} f v a x e = go v ∙ ap (map_reading f) e
   where
     go : (v : Verdict) → result_of v (f a) ≡ map_reading f (result_of v a)
-    go verdict.Accepted = refl
-    go (verdict.Refused k) = refl
+    go (Ok tt) = refl
+    go (Err k) = refl
 
 -- ---- a known label: it comes again, or its value is read and put in its place
 abbrev pub if_again : Bool → LabelStatus
@@ -175,48 +162,56 @@ module _ {S : Type 0} (F : Form S) where
     pub says : result_of w d ≡ pair_read F c (label_at l) (value_view (after_value l))
     pub ends : Accepting w (EndsAt s next (after_value (after_value l)))
 
-  module _ (c : S) (s l : List ℕ) (p : LabelResult) (t : PairLabelSpec s l p) where
-    fine-is : p.verdict ≡ (labelled_answer (length s) (label_at l) p.value).verdict
-    fine-is = ap (λ (q : LabelResult). q.verdict) t.is
+  same_read : {m n : ℕ} → read m ≡ read n → m ≡ n
+  same_read e = cc
 
-    label_is : p.label ≡ (labelled_answer (length s) (label_at l) p.value).label
-    label_is = ap (λ (q : LabelResult). q.label) t.is
+  same_refusal : {j k : Refusal} → ◌≡◌ {A = Reading ℕ} (refused j) (refused k) → j ≡ k
+  same_refusal e = cc
 
-    pub turned-known : 0 < p.label → (w : Verdict) (d : S) (next : ℕ)
-        → result_of w d ≡ known_read F (F.standing c p.label) c p.label (value_view (drop p.value s))
-        → Accepting w (EndsAt s next (after_value (drop p.value s))) → Turned c s l w d next
-    turned-known h w d next e f = go (label_at l) refl
+  never : (n : ℕ) → {k : Refusal} → read n ≡ refused k → ⊥
+  never n e = let z : ◌≡◌ {A = ℕ} 0 1 = cc in omega arith
+
+  module _ (c : S) (s l : List ℕ) (p : Result (ℕ × ℕ) Refusal) (t : PairLabelSpec s l p) where
+    -- a label that is no integer
+    pub turned-refused : (k : Refusal) → p ≡ Err k → (d : S) (next : ℕ) → Turned c s l (Err k) d next
+    turned-refused k h d next = go (label_at l) refl (sym (ap read_by h) ∙ t.is)
       where
-        go : (x : Label) → label_at l ≡ x → Turned c s l w d next
-        go label.NoInteger g = absurd (let z : p.label ≡ 0 = label_is ∙ rw g in omega arith)
-        go label.Negative g = absurd (let z : p.label ≡ 0 = label_is ∙ rw g in omega arith)
-        go (label.Number n) g =
-            let n-is : p.label ≡ n = label_is ∙ rw g in
-            let fine : p.verdict ≡ verdict.Accepted = fine-is ∙ rw g in
-            let place : EndsAt s p.value (after_value l) = rw fine at t.rest in
-            let value = place.rest in
-            record { says = e ∙ rw (g, n-is, value); ends = rw (← value) f }
+        go : (x : Label) → label_at l ≡ x → refused k ≡ labelled x → Turned c s l (Err k) d next
+        go label.NoInteger g e = let z : k ≡ refusal.«Type» = same_refusal e in record { says = rw (g, z); ends = tt }
+        go label.Negative g e = absurd (never 0 (sym e))
+        go (label.Number n) g e = absurd (never n (sym e))
 
-    pub turned-passed : F.standing c p.label ≡ Unknown → (next : ℕ) → EndsAt s next (after_value (drop p.value s))
-        → Turned c s l p.verdict (F.passing c) next
-    turned-passed h next f = go (label_at l) refl
-      where
-        go : (x : Label) → label_at l ≡ x → Turned c s l p.verdict (F.passing c) next
-        go label.NoInteger g =
-            let bad : p.verdict ≡ verdict.Refused refusal.«Type» = fine-is ∙ rw g in
-            rw bad (record { says = rw g; ends = tt })
-        go label.Negative g =
-            let fine : p.verdict ≡ verdict.Accepted = fine-is ∙ rw g in
-            let place : EndsAt s p.value (after_value l) = rw fine at t.rest in
-            let value = place.rest in
-            rw fine (record { says = rw g; ends = on-with (ap after_value value) f })
-        go (label.Number n) g =
-            let n-is : p.label ≡ n = label_is ∙ rw g in
-            let fine : p.verdict ≡ verdict.Accepted = fine-is ∙ rw g in
-            let place : EndsAt s p.value (after_value l) = rw fine at t.rest in
-            let value = place.rest in
-            let unknown : F.standing c n ≡ Unknown = rw n-is at h in
-            rw fine (record { says = rw (g, unknown); ends = on-with (ap after_value value) f })
+    module _ (q : ℕ × ℕ) (h : p ≡ Ok q) where
+      told : read q.0 ≡ labelled (label_at l)
+      told = sym (ap read_by h) ∙ t.is
+
+      place : EndsAt s q.1 (after_value l)
+      place = rw h at t.rest
+
+      pub turned-known : 0 < q.0 → (w : Verdict) (d : S) (next : ℕ)
+          → result_of w d ≡ known_read F (F.standing c q.0) c q.0 (value_view (drop q.1 s))
+          → Accepting w (EndsAt s next (after_value (drop q.1 s))) → Turned c s l w d next
+      turned-known some w d next e f = go (label_at l) refl
+        where
+          go : (x : Label) → label_at l ≡ x → Turned c s l w d next
+          go label.NoInteger g = let z : read q.0 ≡ refused refusal.«Type» = told ∙ ap labelled g in absurd (never q.0 z)
+          go label.Negative g = let z : q.0 ≡ 0 = same_read (told ∙ ap labelled g) in absurd (omega arith)
+          go (label.Number n) g =
+              let n-is : q.0 ≡ n = same_read (told ∙ ap labelled g) in
+              let value = place.rest in
+              record { says = e ∙ rw (g, n-is, value); ends = rw (← value) f }
+
+      pub turned-passed : F.standing c q.0 ≡ Unknown → (next : ℕ) → EndsAt s next (after_value (drop q.1 s))
+          → Turned c s l (Ok tt) (F.passing c) next
+      turned-passed unknown next f = go (label_at l) refl
+        where
+          go : (x : Label) → label_at l ≡ x → Turned c s l (Ok tt) (F.passing c) next
+          go label.NoInteger g = let z : read q.0 ≡ refused refusal.«Type» = told ∙ ap labelled g in absurd (never q.0 z)
+          go label.Negative g = record { says = rw g; ends = on-with (ap after_value place.rest) f }
+          go (label.Number n) g =
+              let n-is : q.0 ≡ n = same_read (told ∙ ap labelled g) in
+              let here : F.standing c n ≡ Unknown = rw n-is at unknown in
+              record { says = rw (g, here); ends = on-with (ap after_value place.rest) f }
 
 -- a walk under way: labels passed over, pairs left, what was gathered so far, and the bytes of the pairs that are left
 pub record Walking {S : Type 0} (F : Form S) (total : Reading S) (count passed left : ℕ) (c : S) (l : List ℕ) : Type 0 where
@@ -241,12 +236,12 @@ module _ {S : Type 0} (F : Form S) where
       unfolding walk_at
       turn_on w d next t = ap (λ (x : Reading S). bind x (λ d. walk_at F (n - 1) d (after_value (after_value l)))) t.says ∙ step
 
-      pub turn-stops : (w : Verdict) (d : S) (next : ℕ) → Turned F c s l w d next → (k : Refusal) → w ≡ verdict.Refused k
+      pub turn-stops : (w : Verdict) (d : S) (next : ℕ) → Turned F c s l w d next → (k : Refusal) → w ≡ Err k
           → refused k ≡ total
       turn-stops w d next t k g =
           ap (λ (w : Verdict). bind (result_of w d) (λ d. walk_at F (n - 1) d (after_value (after_value l)))) (sym g) ∙ turn_on w d next t
 
-      pub turn-goes : (w : Verdict) (d : S) (next : ℕ) → Turned F c s l w d next → w ≡ verdict.Accepted → (q : ℕ) → q ≤ p + 1
+      pub turn-goes : (w : Verdict) (d : S) (next : ℕ) → Turned F c s l w d next → w ≡ Ok tt → (q : ℕ) → q ≤ p + 1
           → Walking F total count q (n - 1) d (drop next s)
       turn-goes w d next t g q f =
           let place : EndsAt s next (after_value (after_value l)) = rw g at t.ends in
@@ -294,14 +289,14 @@ module _ {S : Type 0} (F : Form S) where
         go false (decode.refused k) = refl
         go false (decode.got i t) = map_read_lem c i
 
-    read_by : (x : Reading Pairs) → pairs_in b s ≡ x → payload_read_by F (head_by b) c s ≡ bind x (pairs_read F c)
-    read_by x e = read-in ∙ ap (λ (y : Reading Pairs). bind y (pairs_read F c)) e
+    read_as : (x : Reading Pairs) → pairs_in b s ≡ x → payload_read_by F (head_by b) c s ≡ bind x (pairs_read F c)
+    read_as x e = read-in ∙ ap (λ (y : Reading Pairs). bind y (pairs_read F c)) e
 
-    module _ (r : PayloadResult) (e : StartSpec b s r) where
-      pub read-refused : (k : Refusal) → r ≡ start.Refused k → payload_read_by F (head_by b) c s ≡ refused k
-      read-refused k g = read_by (refused k) (subst (says_start b s) g e.says)
+    module _ (r : Result MapHead Refusal) (e : StartSpec b s r) where
+      pub read-refused : (k : Refusal) → r ≡ Err k → payload_read_by F (head_by b) c s ≡ refused k
+      read-refused k g = read_as (refused k) (subst (says_start b s) g e.says)
 
-      pub read_pairs : (n p : ℕ) → r ≡ start.Pairs n p → payload_read_by F (head_by b) c s ≡ walk_at F n c (drop p s)
-      read_pairs n p g =
+      pub read_pairs : (m : MapHead) → r ≡ Ok m → payload_read_by F (head_by b) c s ≡ walk_at F m.count c (drop m.start s)
+      read_pairs m g =
           let (ps, w, q) = subst (says_start b s) g e.says in
-          read_by (read ps) w ∙ sym (walk-tree ps n c (drop p s) q)
+          read_as (read ps) w ∙ sym (walk-tree ps m.count c (drop m.start s) q)

@@ -6,5 +6,5 @@ pub mod open;
 pub mod pair;
 
 pub use once::{is_seen, octets_once};
-pub use open::{PayloadResult, open_payload};
-pub use pair::{LabelResult, item_end, labelled_at};
+pub use open::open_payload;
+pub use pair::{item_end, labelled_at};

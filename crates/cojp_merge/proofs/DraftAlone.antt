@@ -1,4 +1,5 @@
 -- A reading of the published form notes each known label, so one that took something has a label noted; a reading of the draft notes none.
+use Rattle.std.specs.Prelude.{Ok}
 use Prim.Native.Nat.{ℕ, ◌+◌}
 use native.Mathlib.Omega.{arith}
 use mathlib.Core.Path.{◌≡◌, refl, ap, sym}
@@ -12,7 +13,6 @@ use Rattle.cbor.specs.Decode.{payload_by, decode_by, heading, argument, next, me
 use Rattle.cbor.specs.Strict.{head_by}
 use Rattle.cbor.specs.View.{View}
 use Rattle.short_address.specs.Address.{is_address}
-use Rattle.refusal.specs.declared.Verdict.TheVariants.{Accepted}
 use Rattle.lemmas.specs.logic.Tests.{never}
 use Rattle.cojp.specs.Address.{address_in}
 use Rattle.cojp.specs.Configuration.{empty_configuration, with_unknown_count, taking_for, noted, configuration_taking, configuration_form}
@@ -108,8 +108,8 @@ read-of-draft : (c : Configuration) → InRange Draft c → of_draft c ≡ true
 unfolding configuration_in_range error_reports_valid
 read-of-draft c i = of-draft c (rw (i.keys, i.address, i.jrc, i.network, i.prefix, i.form)) i.met
 
-drafts-merge : ReadsInRange → (p q : List ℕ) → (read_configuration p).verdict ≡ Accepted → (read_configuration q).verdict ≡ Accepted
-    → (merge_answer (read_configuration p).configuration (read_configuration q).configuration).verdict ≡ Accepted
+drafts-merge : ReadsInRange → (p q : List ℕ) → (read_configuration p).verdict ≡ Ok tt → (read_configuration q).verdict ≡ Ok tt
+    → (merge_answer (read_configuration p).configuration (read_configuration q).configuration).verdict ≡ Ok tt
 drafts-merge L p q e f =
     let a = (read_configuration p).configuration in
     let b = (read_configuration q).configuration in

@@ -1,4 +1,5 @@
 -- Each parameter goes by its report, so each law is by cases on the reports of one parameter.
+use Rattle.std.specs.Prelude.{Ok, Err}
 use Prim.Native.Nat.{ℕ}
 use mathlib.Core.Path.{◌≡◌, refl, ap, sym, ◌∙◌}
 use mathlib.Core.Bool.{Bool, true, false, cond, ◌&&◌}
@@ -6,7 +7,6 @@ use lib.Dec.{eqb}
 use native.Mathlib.Omega.{arith}
 use mathlib.Core.Option.{none, some}
 use Rattle.refusal.specs.declared.Refusal.{Refusal}
-use Rattle.refusal.specs.declared.Verdict.TheVariants.{Accepted, Refused}
 use Rattle.cojp.specs.Configuration.{empty_configuration}
 use Rattle.link_key.specs.set.KeySet.{keys_of}
 use Rattle.cojp.specs.DispositionLemmas.{by-disposition}
@@ -133,7 +133,7 @@ merged-of-draft a b e f = of-draft (merged a b) (merged-in-range a b (draft-limi
 
 -- ---- the answer
 abbrev pub answered : Configuration → MergeResult
-answered c = record { verdict = Accepted; configuration = c }
+answered c = record { verdict = Ok tt; configuration = c }
 
 pub merge-answered : (a b : Configuration) → of_draft a ≡ true → of_draft b ≡ true → answered (merged a b) ≡ merge_answer a b
 unfolding merge_answer
@@ -151,15 +151,15 @@ merge-second-outside a b f = by (of_draft a)
     by true = rw f
     by false = refl
 
-accepted-test : (t : Bool) (c : Configuration) → (cond t (answered c) outside_limits).verdict ≡ Accepted → t ≡ true
+accepted-test : (t : Bool) (c : Configuration) → (cond t (answered c) outside_limits).verdict ≡ Ok tt → t ≡ true
 accepted-test true c e = refl
 accepted-test false c e = absurd (let z : ◌≡◌ {A = ℕ} 0 1 = cc in omega arith)
 
-accepted-of-draft : (a b : Configuration) → (merge_answer a b).verdict ≡ Accepted → (of_draft a ≡ true) × (of_draft b ≡ true)
+accepted-of-draft : (a b : Configuration) → (merge_answer a b).verdict ≡ Ok tt → (of_draft a ≡ true) × (of_draft b ≡ true)
 unfolding merge_answer
 accepted-of-draft a b e = both_true (of_draft a) (of_draft b) (accepted-test (of_draft a && of_draft b) (merged a b) e)
 
-accepted-is : (a b : Configuration) → (merge_answer a b).verdict ≡ Accepted → (merge_answer a b).configuration ≡ merged a b
+accepted-is : (a b : Configuration) → (merge_answer a b).verdict ≡ Ok tt → (merge_answer a b).configuration ≡ merged a b
 accepted-is a b e =
     let r = accepted-of-draft a b e in
     ap (λ (m : MergeResult). m.configuration) (sym (merge-answered a b r.0 r.1))
@@ -214,7 +214,7 @@ in-range a b e f =
     let answer = sym (merge-answered a b e f) in
     (ap (λ (m : MergeResult). m.verdict) answer, rw answer (merged-of-draft a b e f))
 
-refused-test : (t : Bool) (c : Configuration) (k : Refusal) → (cond t (answered c) outside_limits).verdict ≡ Refused k
+refused-test : (t : Bool) (c : Configuration) (k : Refusal) → (cond t (answered c) outside_limits).verdict ≡ Err k
     → (cond t (answered c) outside_limits).configuration ≡ empty_configuration
 refused-test true c k e = absurd (let z : ◌≡◌ {A = ℕ} 0 1 = cc in omega arith)
 refused-test false c k e = refl

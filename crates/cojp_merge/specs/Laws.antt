@@ -1,8 +1,7 @@
 -- What is promised of merging. The law on a node stands with the node.
-use Rattle.std.specs.Prelude.{ℕ, ◌≡◌, Bool, true, List, [], ◌∷◌, ◌⊎◌}
+use Rattle.std.specs.Prelude.{ℕ, ◌≡◌, Bool, true, List, [], ◌∷◌, ◌⊎◌, Ok, Err}
 use Rattle.std.proofs.Math.Option.{none, some}
 use Rattle.refusal.specs.declared.Refusal.{Refusal}
-use Rattle.refusal.specs.declared.Verdict.TheVariants.{Accepted, Refused}
 use Rattle.cbor.specs.Strict.{head_by}
 use Rattle.cojp.specs.Address.{address_of, address_parameter}
 use Rattle.cojp.specs.Configuration.{empty_configuration, read_configuration_by, read_configuration_as, read_configuration}
@@ -16,29 +15,29 @@ use Rattle.cojp_merge.specs.Merge.{merged, of_draft, outside_limits, merge_answe
 -- ---- three configurations come to the same in either bracket, reports included
 abbrev pub Associative : Type 0
 Associative =
-    (a b c : Configuration) → (merge_answer a b).verdict ≡ Accepted → (merge_answer b c).verdict ≡ Accepted →
+    (a b c : Configuration) → (merge_answer a b).verdict ≡ Ok tt → (merge_answer b c).verdict ≡ Ok tt →
     merge_answer (merge_answer a b).configuration c ≡ merge_answer a (merge_answer b c).configuration
 
 -- ---- the empty configuration changes no taken parameter, on either side
 abbrev pub NeutralFirst : Type 0
 NeutralFirst =
-    (c : Configuration) → (merge_answer empty_configuration c).verdict ≡ Accepted →
+    (c : Configuration) → (merge_answer empty_configuration c).verdict ≡ Ok tt →
     SameConfiguration (merge_answer empty_configuration c).configuration c
 
 abbrev pub NeutralSecond : Type 0
 NeutralSecond =
-    (c : Configuration) → (merge_answer c empty_configuration).verdict ≡ Accepted →
+    (c : Configuration) → (merge_answer c empty_configuration).verdict ≡ Ok tt →
     SameConfiguration (merge_answer c empty_configuration).configuration c
 
 -- ---- whoever merges two of the draft gets one of the draft, so it can be written or merged again; a refusal comes with the empty one
 abbrev pub StaysInRange : Type 0
 StaysInRange =
     (a b : Configuration) → of_draft a ≡ true → of_draft b ≡ true →
-    ((merge_answer a b).verdict ≡ Accepted) × (of_draft (merge_answer a b).configuration ≡ true)
+    ((merge_answer a b).verdict ≡ Ok tt) × (of_draft (merge_answer a b).configuration ≡ true)
 
 abbrev pub RefusedEmpty : Type 0
 RefusedEmpty =
-    (a b : Configuration) (k : Refusal) → (merge_answer a b).verdict ≡ Refused k → (merge_answer a b).configuration ≡ empty_configuration
+    (a b : Configuration) (k : Refusal) → (merge_answer a b).verdict ≡ Err k → (merge_answer a b).configuration ≡ empty_configuration
 
 -- ---- what is taken is equal, also in the places that are not looked at
 pub record TakesEqual (c d : Configuration) : Type 0 where
@@ -86,8 +85,8 @@ lease_of_one = 0xA1 ∷ 0x03 ∷ 0x82 ∷ 0x42 ∷ 0x12 ∷ 0x34 ∷ 0x01 ∷ []
 pub record DraftAlone : Type 0 where
   -- what two payloads of the draft hold merges
   pub draft :
-      (p q : List ℕ) → (read_configuration p).verdict ≡ Accepted → (read_configuration q).verdict ≡ Accepted →
-      (merge_answer (read_configuration p).configuration (read_configuration q).configuration).verdict ≡ Accepted
+      (p q : List ℕ) → (read_configuration p).verdict ≡ Ok tt → (read_configuration q).verdict ≡ Ok tt →
+      (merge_answer (read_configuration p).configuration (read_configuration q).configuration).verdict ≡ Ok tt
   -- what one of the published form holds does not, whatever it is merged with, unless nothing is taken from it
   pub published :
       (strict : Bool) (p : List ℕ) (d : Configuration) →

@@ -1,7 +1,6 @@
 -- Two configurations joined into one, in document 01's form. Document 02, request 11: "Requests 4 and 10 stay with the old form".
-use Rattle.std.specs.Prelude.{Bool, cond, ◌&&◌, eqb}
+use Rattle.std.specs.Prelude.{Bool, cond, ◌&&◌, eqb, Ok, Err}
 use Rattle.refusal.specs.declared.Refusal.TheVariants.{Range}
-use Rattle.refusal.specs.declared.Verdict.TheVariants.{Accepted, Refused}
 use Rattle.cojp.specs.Configuration.{empty_configuration}
 use Rattle.cojp.specs.ErrorReports.{no_error_reports}
 use Rattle.cojp.specs.Lists.{no_list_parameter}
@@ -36,10 +35,10 @@ of_draft c = (configuration_in_range Draft c && eqb c.labels.count 0)
 
 -- RANGE where either is none, and the empty configuration beside it
 abbrev pub outside_limits : MergeResult
-outside_limits = record { verdict = Refused Range; configuration = empty_configuration }
+outside_limits = record { verdict = Err Range; configuration = empty_configuration }
 
 unfoldable pub merge_answer : Configuration → Configuration → MergeResult
 merge_answer first second =
     cond (of_draft first && of_draft second)
-    (record { verdict = Accepted; configuration = merged first second })
+    (record { verdict = Ok tt; configuration = merged first second })
     outside_limits

@@ -1,3 +1,2 @@
 mod Configurations
-mod Follows
 mod Labels

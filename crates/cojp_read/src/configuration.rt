@@ -3,137 +3,76 @@
 mod once;
 mod published;
 
-ghost use Rattle.std.specs.Prelude.{◌≡◌, drop};
-ghost use Rattle.cojp.specs.Configuration.{empty_configuration, configuration_form, refuse_configuration};
-ghost use Rattle.cojp.specs.Configuration.{configuration_answer, read_configuration_by};
+ghost use Rattle.std.specs.Prelude.{◌≡◌, ◌+◌, ◌<◌, ◌≤◌, ◌^◌, drop, IfOk};
 ghost use Rattle.cbor.specs.Strict.{head_by};
-ghost use Rattle.cojp_map.specs.Pairs.{walk_at};
+ghost use Rattle.cojp.specs.Configuration.{configuration_form, read_configuration_by};
+ghost use Rattle.cojp.specs.Walk.{payload_read_by};
+ghost use Rattle.cojp_read.specs.Pair.{reading_in, PairTaken};
 
-use crate::configuration::once::{KeysStep, address_once, allows_additional_info, keys_once};
-use crate::configuration::published::{blacklist_once, noted_label, rate_once};
-use cojp::{ConfigurationRead, KeysParameter, Parameter, empty_configuration, parameter_of};
-use cojp_key_set::read_keys;
-use cojp_map::{PayloadResult, item_end, labelled_at, octets_once, open_payload};
+use crate::configuration::once::{take_address, take_keys};
+use crate::configuration::published::{note_label, take_blacklist, take_rate};
+use crate::octets::take_octets;
+use cojp::{Configuration, ConfigurationRead, Parameter, empty_configuration, parameter_of};
+use cojp_map::{item_end, labelled_at, open_payload};
 use protocol_version::Version;
-use refusal::{Refusal, Verdict};
+use refusal::Refusal;
 
-fn refused_configuration(why: Refusal) -> ConfigurationRead
-    ensures { result ≡ refuse_configuration why }
+// Takes the pair at a place into a configuration: where the bytes go on. Each parameter is stored where it stands: to hand a Configuration
+// on costs a fifth of a short read.
+fn take_pair(c: &mut Configuration, s: &[u8], at: usize, version: Version) -> Result<usize, Refusal>
+    requires { c.old.unknown + 1 < 2 ^ 64 }
+    ensures taken { PairTaken (configuration_form version) c.old s.now (drop at s.now) result c.new }
+    ensures few { IfOk result (λ n. c.new.unknown ≤ c.old.unknown + 1) }
 {
-    let none = empty_configuration();
-    ConfigurationRead {
-        verdict: Verdict::Refused(why),
-        configuration: none,
+    let (label, value) = labelled_at(s, at)?;
+    note_label(&mut c.labels, version, label);
+    match parameter_of(version, label) {
+        Parameter::Keys => take_keys(&mut c.keys, s, value, version),
+        Parameter::Address => take_address(&mut c.address, s, value, version),
+        Parameter::Jrc => take_octets(&mut c.jrc, s, value, 16, version),
+        Parameter::Network => take_octets(&mut c.network, s, value, 0, Version::Draft),
+        Parameter::Prefix => take_octets(&mut c.prefix, s, value, 0, Version::Draft),
+        Parameter::Blacklist => take_blacklist(&mut c.blacklist, s, value),
+        Parameter::Rate => take_rate(&mut c.rate, s, value),
+        Parameter::Unknown => {
+            c.unknown += 1;
+            Ok(item_end(s, value))
+        }
     }
 }
 
-// Reads a configuration of a form from a payload, strictly or not: the pairs in payload order, up to the first refusal. The parameters are
-// stored where they stand, and each answer is returned where it is made: to hand a Configuration on costs a fifth of a short read. The
-// empty one is made before the scan, so that its stores are through when it is read again. The pairs are read from a slice of their own,
-// so that the payload's place and length need not be fetched from memory as one.
+// Takes the pairs of a payload in their order, up to the first refusal.
+fn take_pairs(
+    c: &mut Configuration,
+    payload: &[u8],
+    version: Version,
+    strict: bool,
+) -> Result<(), Refusal>
+    requires { c.old.unknown ≡ 0 }
+    ensures { reading_in (λ x. c.new) result ≡ payload_read_by (configuration_form version) (head_by strict) c.old payload.now }
+{
+    let map = open_payload(payload, strict)?;
+    let mut at = map.start;
+    for _ in 0..map.count {
+        at = take_pair(c, payload, at, version)?;
+    }
+    Ok(())
+}
+
+// Reads a configuration of a form from a payload, strictly or not: the pairs in payload order, up to the first refusal.
 pub fn read_configuration(payload: &[u8], version: Version, strict: bool) -> ConfigurationRead
     ensures { result ≡ read_configuration_by version (head_by strict) payload.now }
 {
     let mut c = empty_configuration();
-    let opened = open_payload(payload, strict);
-    match opened {
-        PayloadResult::Refused(k) => return refused_configuration(k),
-        PayloadResult::Pairs { count, start } => {
-            let s = &payload[0..];
-            let mut at = start;
-            let mut left = count;
-            while 0 < left {
-                let pair = labelled_at(s, at);
-                let mut verdict = pair.verdict;
-                if allows_additional_info(version) {
-                    c.labels = noted_label(c.labels, version, pair.label);
-                }
-                let named = parameter_of(version, pair.label);
-                match named {
-                    Parameter::Keys => {
-                        let before = c.keys;
-                        let held = before.disposition;
-                        let allowed = allows_additional_info(version);
-                        let r = read_keys(s, pair.value, allowed);
-                        let parameter = r.parameter;
-                        c.keys = parameter;
-                        let said = r.verdict;
-                        let report = parameter.disposition;
-                        let told = KeysStep {
-                            verdict: said,
-                            disposition: report,
-                            next: r.next,
-                        };
-                        let step = keys_once(s, pair.value, held, version, told);
-                        verdict = step.verdict;
-                        let became = step.disposition;
-                        let stored = c.keys;
-                        let set = stored.value;
-                        let settled = KeysParameter {
-                            disposition: became,
-                            value: set,
-                        };
-                        c.keys = settled;
-                        at = step.next;
-                    }
-                    Parameter::Address => {
-                        let r = address_once(s, pair.value, c.address, version);
-                        verdict = r.verdict;
-                        c.address = r.parameter.repacked();
-                        at = r.next;
-                    }
-                    Parameter::Jrc => {
-                        let held = c.jrc;
-                        let report = held.disposition;
-                        let r = octets_once(s, pair.value, report, 16, version);
-                        verdict = r.verdict;
-                        c.jrc = r.parameter.repacked();
-                        at = r.next;
-                    }
-                    Parameter::Network => {
-                        let held = c.network;
-                        let report = held.disposition;
-                        let r = octets_once(s, pair.value, report, 0, Version::Draft);
-                        verdict = r.verdict;
-                        c.network = r.parameter.repacked();
-                        at = r.next;
-                    }
-                    Parameter::Prefix => {
-                        let held = c.prefix;
-                        let report = held.disposition;
-                        let r = octets_once(s, pair.value, report, 0, Version::Draft);
-                        verdict = r.verdict;
-                        c.prefix = r.parameter.repacked();
-                        at = r.next;
-                    }
-                    Parameter::Blacklist => {
-                        let r = blacklist_once(s, pair.value, c.blacklist);
-                        verdict = r.verdict;
-                        let parameter = r.parameter;
-                        c.blacklist = parameter;
-                        at = r.next;
-                    }
-                    Parameter::Rate => {
-                        let r = rate_once(s, pair.value, c.rate);
-                        verdict = r.verdict;
-                        let parameter = r.parameter;
-                        c.rate = parameter;
-                        at = r.next;
-                    }
-                    Parameter::Unknown => {
-                        c.unknown += 1;
-                        at = item_end(s, pair.value);
-                    }
-                }
-                if let Verdict::Refused(why) = verdict {
-                    return refused_configuration(why);
-                }
-                left -= 1;
-            }
-            return ConfigurationRead {
-                verdict: Verdict::Accepted,
-                configuration: c,
-            };
-        }
+    // Kept: a refusal has the empty configuration beside it (document 01; the law `ReadersDemand1` of cojp).
+    match take_pairs(&mut c, payload, version, strict) {
+        Ok(()) => ConfigurationRead {
+            verdict: Ok(()),
+            configuration: c,
+        },
+        Err(why) => ConfigurationRead {
+            verdict: Err(why),
+            configuration: empty_configuration(),
+        },
     }
 }

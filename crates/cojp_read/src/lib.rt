@@ -2,6 +2,7 @@
 #![tactic(auto)]
 
 pub mod configuration;
+mod octets;
 pub mod request;
 
 pub use configuration::read_configuration;

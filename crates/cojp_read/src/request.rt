@@ -4,111 +4,119 @@ mod parameter;
 mod role;
 mod unsupported;
 
-ghost use Rattle.std.specs.Prelude.{◌≡◌, true, drop};
-ghost use Rattle.cojp.specs.Reading.{bind};
-ghost use Rattle.cojp.specs.Request.{
-  request_state,
-  empty_request_state,
-  request_form,
-  settled,
-  refuse_request,
-  request_answer,
-  read_request_by,
-};
+ghost use Rattle.std.specs.Prelude.{◌≡◌, ◌+◌, ◌<◌, ◌≤◌, ◌^◌, true, drop, IfOk};
 ghost use Rattle.cbor.specs.Strict.{head_by};
-ghost use Rattle.cojp_map.specs.Pairs.{walk_at};
+ghost use Rattle.cojp.specs.Reading.{bind};
+ghost use Rattle.cojp.specs.Request.{request_state, request_form, settled, read_request_by};
+ghost use Rattle.cojp.specs.Walk.{payload_read_by};
+ghost use Rattle.cojp_read.specs.Pair.{reading_in, PairTaken};
 
+use crate::octets::take_octets;
 use crate::request::parameter::{RequestParameter, request_parameter_of};
 use crate::request::role::role_once;
 use crate::request::unsupported::unsupported_once;
-use cojp::{JoinRequest, RequestRead, empty_request, is_owing};
-use cojp_map::{PayloadResult, item_end, labelled_at, octets_once, open_payload};
+use cojp::{JoinRequest, RequestRead, RequestState, empty_request, is_owing};
+use cojp_map::{item_end, labelled_at, open_payload};
 use protocol_version::Version;
-use refusal::{Refusal, Verdict};
-
-fn refused_request(why: Refusal) -> RequestRead
-    ensures { result ≡ refuse_request why }
-{
-    let none = empty_request();
-    RequestRead {
-        verdict: Verdict::Refused(why),
-        request: none,
-    }
-}
+use refusal::Refusal;
 
 // The answer after the last pair: OWED where a network identifier is due.
-fn settled_request(request: JoinRequest, version: Version) -> RequestRead
-    ensures { result ≡ request_answer (settled version (request_state true request)) }
+fn settled_request(request: &JoinRequest, version: Version) -> Result<(), Refusal>
+    ensures { reading_in (λ x. request.now) result ≡ settled version (request_state true request.now) }
 {
-    let network = request.network;
-    let report = network.disposition;
-    if is_owing(version, request.role, report) {
-        return refused_request(Refusal::Owed);
+    if is_owing(version, request.role, request.network.disposition) {
+        return Err(Refusal::Owed);
     }
-    RequestRead {
-        verdict: Verdict::Accepted,
-        request: request,
+    Ok(())
+}
+
+// Takes the pair at a place into what was gathered: where the bytes go on.
+fn take_pair(
+    state: &mut RequestState,
+    s: &[u8],
+    at: usize,
+    version: Version,
+) -> Result<usize, Refusal>
+    requires { state.old.request.unknown + 1 < 2 ^ 64 }
+    ensures taken { PairTaken (request_form version) state.old s.now (drop at s.now) result state.new }
+    ensures few { IfOk result (λ n. state.new.request.unknown ≤ state.old.request.unknown + 1) }
+{
+    let (label, value) = labelled_at(s, at)?;
+    match request_parameter_of(version, label) {
+        RequestParameter::Role => {
+            let role = role_once(s, value, version, state.named, state.request.errors)?;
+            state.named = true;
+            state.request.role = role.role;
+            state.request.errors = role.errors;
+            Ok(role.next)
+        }
+        RequestParameter::Network => {
+            take_octets(&mut state.request.network, s, value, 0, version)
+        }
+        RequestParameter::Unsupported => {
+            let held = state.request.unsupported.disposition;
+            let reports = unsupported_once(s, value, held, state.request.errors)?;
+            state.request.unsupported = reports.parameter;
+            state.request.errors = reports.errors;
+            Ok(reports.next)
+        }
+        RequestParameter::Unknown => {
+            state.request.unknown += 1;
+            Ok(item_end(s, value))
+        }
     }
 }
 
-// The next pairs in payload order, up to the first refusal. The parameters are stored where they stand.
-fn take_pairs(s: &[u8], mut at: usize, mut left: u64, version: Version) -> RequestRead
-    ensures { result
-        ≡ request_answer (bind (walk_at (request_form version) left empty_request_state (drop at s.now)) (settled version)) }
+// Takes the pairs of a payload in their order, up to the first refusal.
+fn take_pairs(
+    state: &mut RequestState,
+    payload: &[u8],
+    version: Version,
+    strict: bool,
+) -> Result<(), Refusal>
+    requires { state.old.request.unknown ≡ 0 }
+    ensures { reading_in (λ x. state.new) result ≡ payload_read_by (request_form version) (head_by strict) state.old payload.now }
 {
-    let mut named = false;
-    let mut q = empty_request();
-    while 0 < left {
-        let pair = labelled_at(s, at);
-        let mut verdict = pair.verdict;
-        let parameter = request_parameter_of(version, pair.label);
-        match parameter {
-            RequestParameter::Role => {
-                let r = role_once(s, pair.value, version, named, q.errors);
-                verdict = r.verdict;
-                q.role = r.role;
-                let errors = r.errors;
-                q.errors = errors;
-                named = true;
-                at = r.next;
-            }
-            RequestParameter::Network => {
-                let held = q.network;
-                let report = held.disposition;
-                let r = octets_once(s, pair.value, report, 0, version);
-                verdict = r.verdict;
-                q.network = r.parameter.repacked();
-                at = r.next;
-            }
-            RequestParameter::Unsupported => {
-                let r = unsupported_once(s, pair.value, q.unsupported, q.errors);
-                verdict = r.verdict;
-                let unsupported = r.parameter;
-                q.unsupported = unsupported;
-                let errors = r.errors;
-                q.errors = errors;
-                at = r.next;
-            }
-            RequestParameter::Unknown => {
-                q.unknown += 1;
-                at = item_end(s, pair.value);
-            }
-        }
-        if let Verdict::Refused(why) = verdict {
-            return refused_request(why);
-        }
-        left -= 1;
+    let map = open_payload(payload, strict)?;
+    let mut at = map.start;
+    for _ in 0..map.count {
+        at = take_pair(state, payload, at, version)?;
     }
-    settled_request(q, version)
+    Ok(())
+}
+
+// Reads what a join request is to be into an empty one.
+fn gather(
+    state: &mut RequestState,
+    payload: &[u8],
+    version: Version,
+    strict: bool,
+) -> Result<(), Refusal>
+    requires { state.old.request.unknown ≡ 0 }
+    ensures { reading_in (λ x. state.new.request) result
+        ≡ bind (payload_read_by (request_form version) (head_by strict) state.old payload.now) (settled version) }
+{
+    take_pairs(state, payload, version, strict)?;
+    settled_request(&state.request, version)
 }
 
 // Reads a join request from a payload. A strict reading refuses a head that is longer than necessary as LOOSE.
 pub fn read_request(payload: &[u8], version: Version, strict: bool) -> RequestRead
     ensures { result ≡ read_request_by version (head_by strict) payload.now }
 {
-    let opened = open_payload(payload, strict);
-    match opened {
-        PayloadResult::Refused(k) => refused_request(k),
-        PayloadResult::Pairs { count, start } => take_pairs(payload, start, count, version),
+    let mut state = RequestState {
+        named: false,
+        request: empty_request(),
+    };
+    // Kept: a refusal has the empty request beside it (document 01; the clause `ReadersDemand1` of cojp).
+    match gather(&mut state, payload, version, strict) {
+        Ok(()) => RequestRead {
+            verdict: Ok(()),
+            request: state.request,
+        },
+        Err(why) => RequestRead {
+            verdict: Err(why),
+            request: empty_request(),
+        },
     }
 }

@@ -1,4 +1,5 @@
 -- A payload that is accepted has at most 256 bytes, so each of its values is small; the walk over its pairs keeps what each value tells.
+use Rattle.std.specs.Prelude.{Ok}
 use Prim.Native.Nat.{ℕ, ◌≤◌}
 use native.Mathlib.Omega.{arith}
 use mathlib.Core.Path.{◌≡◌, refl, sym, ap, ◌∙◌}
@@ -9,8 +10,7 @@ use lib.ListN.{length}
 use borrow.Author.Tests.{ltb-false}
 use Rattle.refusal.specs.RefusalLemmas.{refused-not}
 use Rattle.refusal.specs.declared.Refusal.TheVariants as refusal
-use Rattle.refusal.specs.declared.Verdict.{Verdict}
-use Rattle.refusal.specs.declared.Verdict.TheVariants.{Accepted}
+use Rattle.refusal.specs.Verdict.{Verdict}
 use Rattle.cbor.specs.Decode.{Outcome, Heading, payload}
 use Rattle.cbor.specs.Decode as decode
 use Rattle.cbor.specs.HeadLaws.{HeadLaws}
@@ -42,7 +42,7 @@ long-refused F head s p e = rw e
 
 -- an object whose answer refuses what is refused
 short-payload : {S : Type 0} (F : Form S) (head : List ℕ → Outcome Heading) (s : S) (p : List ℕ) (say : Reading S → Verdict) →
-    (say (refused refusal.Long) ≡ Accepted → ⊥) → say (payload_read_by F head s p) ≡ Accepted → length p ≤ 256
+    (say (refused refusal.Long) ≡ Ok tt → ⊥) → say (payload_read_by F head s p) ≡ Ok tt → length p ≤ 256
 short-payload F head s p say refuses e = by (ltb 256 (length p)) refl
   where
     by : (b : Bool) → ltb 256 (length p) ≡ b → length p ≤ 256
@@ -73,24 +73,24 @@ module _ (laws : ItemLaws) (H : HeadLaws) (p : List ℕ) (b : Bytes p) (short : 
 
 -- ---- what is answered
 module _ (H : HeadLaws) (w : Verdict) (ks : List Known) (small : Small ks) where
-  configuration-of : (r : Reading Configuration) → Agrees w (configurations.Both ks) r → (configuration_answer r).verdict ≡ Accepted →
+  configuration-of : (r : Reading Configuration) → Agrees w (configurations.Both ks) r → (configuration_answer r).verdict ≡ Ok tt →
       Configured ks (configuration_answer r).configuration
   configuration-of (refused k) a e = refused-not k e
   configuration-of (read c) a e = configurations.configured H ks c small a.1.1
 
   request-of : (r : Reading RequestState) → Agrees w (requests.Both ks) r →
-      (request_answer (bind r (settled Published))).verdict ≡ Accepted →
+      (request_answer (bind r (settled Published))).verdict ≡ Ok tt →
       Requested ks (request_answer (bind r (settled Published))).request
   request-of (refused k) a e = refused-not k e
   request-of (read g) a e = by (owing Published g.request.role g.request.network.disposition) e
     where
-      by : (b : Bool) → (request_answer (cond b (refused refusal.Owed) (read g.request))).verdict ≡ Accepted →
+      by : (b : Bool) → (request_answer (cond b (refused refusal.Owed) (read g.request))).verdict ≡ Ok tt →
           Requested ks (request_answer (cond b (refused refusal.Owed) (read g.request))).request
       by true q = refused-not refusal.Owed q
       by false q = requests.requested H ks g small a.1.1
 
 module _ (laws : ItemLaws) (H : HeadLaws) where
-  configuration : (strict : Bool) (p : List ℕ) → Bytes p → (configuration_of strict p).verdict ≡ Accepted →
+  configuration : (strict : Bool) (p : List ℕ) → Bytes p → (configuration_of strict p).verdict ≡ Ok tt →
       Configured (known_in configuration_labels (pairs_in strict p)) (configuration_of strict p).configuration
   configuration strict p b e =
       let short =
@@ -101,7 +101,7 @@ module _ (laws : ItemLaws) (H : HeadLaws) where
       (small-known configuration_labels (pairs_in strict p) (pairs_small laws H p b short strict))
       (payload_read_by (configuration_form Published) (head_by strict) empty_configuration p) (configurations.configuration-kept strict p) e
 
-  request : (strict : Bool) (p : List ℕ) → Bytes p → (request_of strict p).verdict ≡ Accepted →
+  request : (strict : Bool) (p : List ℕ) → Bytes p → (request_of strict p).verdict ≡ Ok tt →
       Requested (known_in request_labels (pairs_in strict p)) (request_of strict p).request
   request strict p b e =
       let short =

@@ -1,5 +1,6 @@
 -- What came is what the walk over the pairs noted. Reports are added one by one, so they are those of what came that are bad; each label
 -- came once, and what is bad came.
+use Rattle.std.specs.Prelude.{Ok}
 use Prim.Native.Nat.{ℕ, ◌+◌, ◌≤◌}
 use native.Mathlib.Omega.{arith}
 use mathlib.Core.Path.{◌≡◌, refl, sym, ap, ◌∙◌}
@@ -11,8 +12,7 @@ use lib.Seq.{append_snoc}
 use borrow.Author.Tests.{eqb-true}
 use Rattle.refusal.specs.RefusalLemmas.{refused-not}
 use Rattle.refusal.specs.declared.Refusal.TheVariants as refusal
-use Rattle.refusal.specs.declared.Verdict.{Verdict}
-use Rattle.refusal.specs.declared.Verdict.TheVariants.{Accepted}
+use Rattle.refusal.specs.Verdict.{Verdict}
 use Rattle.byte_io.specs.BigEndian.{digits}
 use Rattle.cbor.specs.Decode.{payload_by, decode_by, heading, argument, next, members, pairs, major_of}
 use Rattle.cbor.specs.Encode.{info_of}
@@ -157,30 +157,30 @@ absent ks c h n =
 
 -- ---- a payload that is accepted
 module _ (w : Verdict) (ks : List Known) where
-  met_of : (r : Reading Configuration) → Agrees w (Seen ks) r → (configuration_answer r).verdict ≡ Accepted →
+  met_of : (r : Reading Configuration) → Agrees w (Seen ks) r → (configuration_answer r).verdict ≡ Ok tt →
       error_report_list (configuration_answer r).configuration.labels ≡ malformed ks
   met_of (refused k) a e = refused-not k e
   met_of (read c) a e = a.1.met.reports
 
-  once-of : (r : Reading Configuration) → Agrees w (Seen ks) r → (configuration_answer r).verdict ≡ Accepted → (n : ℕ) →
+  once-of : (r : Reading Configuration) → Agrees w (Seen ks) r → (configuration_answer r).verdict ≡ Ok tt → (n : ℕ) →
       times_in n (error_report_list (error_reports_of (configuration_answer r).configuration))
       ≡ cond (is_discarded (report_at (configuration_answer r).configuration n)) 1 0
   once-of (refused k) a e n = refused-not k e
   once-of (read c) a e n = once ks c a.1 n
 
-  absent-of : (r : Reading Configuration) → Agrees w (Seen ks) r → (configuration_answer r).verdict ≡ Accepted → (n : ℕ) →
+  absent-of : (r : Reading Configuration) → Agrees w (Seen ks) r → (configuration_answer r).verdict ≡ Ok tt → (n : ℕ) →
       is_in n configuration_labels ≡ true → is_absent (report_at (configuration_answer r).configuration n) ≡ not (is_in n (labels_of ks))
   absent-of (refused k) a e = refused-not k e
   absent-of (read c) a e = absent ks c a.1
 
 module _ (w : Verdict) (ks : List Known) where
-  request-of : (r : Reading RequestState) → Agrees w (Asked ks) r → (request_answer (bind r (settled Published))).verdict ≡ Accepted →
+  request-of : (r : Reading RequestState) → Agrees w (Asked ks) r → (request_answer (bind r (settled Published))).verdict ≡ Ok tt →
       (error_report_list (request_answer (bind r (settled Published))).request.errors ≡ request_reports ks)
       × ((request_answer (bind r (settled Published))).request.role ≡ role_in ks)
   request-of (refused k) a e = refused-not k e
   request-of (read g) a e = by (owing Published g.request.role g.request.network.disposition) e
     where
-      by : (b : Bool) → (request_answer (cond b (refused refusal.Owed) (read g.request))).verdict ≡ Accepted →
+      by : (b : Bool) → (request_answer (cond b (refused refusal.Owed) (read g.request))).verdict ≡ Ok tt →
           (error_report_list (request_answer (cond b (refused refusal.Owed) (read g.request))).request.errors ≡ request_reports ks)
           × ((request_answer (cond b (refused refusal.Owed) (read g.request))).request.role ≡ role_in ks)
       by true q = refused-not refusal.Owed q

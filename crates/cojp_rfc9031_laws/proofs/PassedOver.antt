@@ -1,4 +1,5 @@
 -- A label that is not known adds one to the count, and what is taken of a known one leaves it: by induction on the pairs.
+use Rattle.std.specs.Prelude.{Ok}
 use Prim.Native.Nat.{ℕ, ◌+◌}
 use native.Mathlib.Omega.{arith}
 use mathlib.Core.Path.{◌≡◌, refl, subst}
@@ -8,7 +9,6 @@ use lib.Dec.{eqb, ltb}
 use lib.ListN.{length}
 use Rattle.refusal.specs.RefusalLemmas.{refused-not}
 use Rattle.refusal.specs.declared.Refusal.TheVariants as refusal
-use Rattle.refusal.specs.declared.Verdict.TheVariants.{Accepted}
 use Rattle.byte_io.specs.BigEndian.{digits}
 use Rattle.cbor.specs.Decode.{Outcome, payload_by, decode_by, heading, argument, next, members, pairs, major_of}
 use Rattle.cbor.specs.Encode.{info_of}
@@ -185,7 +185,7 @@ configuration-takes : (v : Version) (c : Configuration) (n : ℕ) (x : View) →
 unfolding configuration_taking
 configuration-takes v c n x = noted-counts v c.unknown n (taking_for v c (parameter_of v n) x) (taking-counts v c x (parameter_of v n))
 
-configuration-counts : (n : ℕ) (r : Reading Configuration) → Counts in_configuration n r → (configuration_answer r).verdict ≡ Accepted →
+configuration-counts : (n : ℕ) (r : Reading Configuration) → Counts in_configuration n r → (configuration_answer r).verdict ≡ Ok tt →
     (configuration_answer r).configuration.unknown ≡ n
 configuration-counts n (refused k) h e = refused-not k e
 configuration-counts n (read c) h e = h
@@ -239,11 +239,11 @@ request-takes v g n x = by (eqb n 1) (eqb n 5)
     by false false = list_counts g (unsupported_taken x)
 
 request-counts : (v : Version) (n : ℕ) (r : Reading RequestState) → Counts in_request n r →
-    (request_answer (bind r (settled v))).verdict ≡ Accepted → (request_answer (bind r (settled v))).request.unknown ≡ n
+    (request_answer (bind r (settled v))).verdict ≡ Ok tt → (request_answer (bind r (settled v))).request.unknown ≡ n
 request-counts v n (refused k) h e = refused-not k e
 request-counts v n (read g) h e = by (owing v g.request.role g.request.network.disposition) e
   where
-    by : (b : Bool) → (request_answer (cond b (refused refusal.Owed) (read g.request))).verdict ≡ Accepted →
+    by : (b : Bool) → (request_answer (cond b (refused refusal.Owed) (read g.request))).verdict ≡ Ok tt →
         (request_answer (cond b (refused refusal.Owed) (read g.request))).request.unknown ≡ n
     by true q = refused-not refusal.Owed q
     by false q = h

@@ -1,4 +1,5 @@
 -- A join request that is read: role, network identifier and reports are in their limits, and take no more bytes than their values did.
+use Rattle.std.specs.Prelude.{Ok}
 use Prim.Native.Nat.{ℕ, ◌+◌, ◌≤◌}
 use native.Mathlib.Omega.{arith}
 use mathlib.Core.Path.{◌≡◌, refl, sym, ap, subst, ◌∙◌}
@@ -8,7 +9,6 @@ use lib.Dec.{leb, eqb}
 use lib.ListN.{length}
 use Rattle.refusal.specs.RefusalLemmas.{refused-not}
 use Rattle.refusal.specs.declared.Refusal.TheVariants as refusal
-use Rattle.refusal.specs.declared.Verdict.TheVariants.{Accepted}
 use Rattle.cbor.specs.Decode.{heading}
 use Rattle.cbor.specs.Encode.{encode_pairs}
 use Rattle.cbor.specs.HeadLaws.{HeadLaws}
@@ -171,34 +171,34 @@ module _ (laws : ItemLaws) (H : HeadLaws) where
       by false false q = listed-fine v m g h (eqb n 8) q x f
 
   settled-accepts : (v : Version) (p : List ℕ) (r : Reading RequestState) → Gives (Within (Fine v) p) r →
-      (request_answer (bind r (settled v))).verdict ≡ Accepted → Accepts v p (request_answer (bind r (settled v))).request
+      (request_answer (bind r (settled v))).verdict ≡ Ok tt → Accepts v p (request_answer (bind r (settled v))).request
   settled-accepts v p (refused k) w e = refused-not k e
   settled-accepts v p (read g) w e = by (owing v g.request.role g.request.network.disposition) refl e
     where
       by : (b : Bool) → owing v g.request.role g.request.network.disposition ≡ b →
-          (request_answer (cond b (refused refusal.Owed) (read g.request))).verdict ≡ Accepted →
+          (request_answer (cond b (refused refusal.Owed) (read g.request))).verdict ≡ Ok tt →
           Accepts v p (request_answer (cond b (refused refusal.Owed) (read g.request))).request
       by true o q = refused-not refusal.Owed q
       by false o q = record { gathered = g; within = w; is = refl; owes_nothing = o }
 
-  request-accepts : (v : Version) (p : List ℕ) → Bytes p → (read_request_as v p).verdict ≡ Accepted →
+  request-accepts : (v : Version) (p : List ℕ) → Bytes p → (read_request_as v p).verdict ≡ Ok tt →
       Accepts v p (read_request_as v p).request
   request-accepts v p b e =
       settled-accepts v p (payload_read_by (request_form v) heading empty_request_state p)
       (payload-bound (request_form v) (Fine v) (wider v) (passing v) (taking v) laws H empty_request_state (none-fine v) p b) e
 
   module _ (S : StrictReaders) where
-    strict_same : (v : Version) (strict : Bool) (p : List ℕ) → (read_request_by v (head_by strict) p).verdict ≡ Accepted →
+    strict_same : (v : Version) (strict : Bool) (p : List ℕ) → (read_request_by v (head_by strict) p).verdict ≡ Ok tt →
         read_request_by v (head_by strict) p ≡ read_request_as v p
     strict_same v false p e = refl
     strict_same v true p e = S.request v p ∙ by (meets_longer p) (ap (λ (r : RequestRead). r.verdict) (sym (S.request v p)) ∙ e)
       where
-        by : (b : Bool) → (cond b (refuse_request refusal.Loose) (read_request_as v p)).verdict ≡ Accepted →
+        by : (b : Bool) → (cond b (refuse_request refusal.Loose) (read_request_as v p)).verdict ≡ Ok tt →
             cond b (refuse_request refusal.Loose) (read_request_as v p) ≡ read_request_as v p
         by true q = refused-not refusal.Loose q
         by false q = refl
 
-    pub accepts : (v : Version) (strict : Bool) (p : List ℕ) → Bytes p → (read_request_by v (head_by strict) p).verdict ≡ Accepted →
+    pub accepts : (v : Version) (strict : Bool) (p : List ℕ) → Bytes p → (read_request_by v (head_by strict) p).verdict ≡ Ok tt →
         Accepts v p (read_request_by v (head_by strict) p).request
     accepts v strict p b e =
         let same = strict_same v strict p e in

@@ -1,4 +1,5 @@
 -- The walk over the pairs agrees with the labels' verdict; a request that it accepts is OWED where its identifier is not taken.
+use Rattle.std.specs.Prelude.{Ok, Err}
 use Prim.Native.Nat.{ℕ}
 use mathlib.Core.Path.{◌≡◌, refl, sym, ap, ◌∙◌}
 use mathlib.Core.Bool.{Bool, true, false, cond}
@@ -6,8 +7,7 @@ use mathlib.Core.List.{List, []}
 use lib.Dec.{ltb}
 use lib.ListN.{length}
 use Rattle.refusal.specs.declared.Refusal.TheVariants as refusal
-use Rattle.refusal.specs.declared.Verdict.{Verdict}
-use Rattle.refusal.specs.declared.Verdict.TheVariants as verdict
+use Rattle.refusal.specs.Verdict.{Verdict}
 use Rattle.byte_io.specs.BigEndian.{digits}
 use Rattle.cbor.specs.Decode.{Outcome, payload_by, decode_by, heading, argument, next, members, pairs, major_of}
 use Rattle.cbor.specs.Encode.{info_of}
@@ -52,7 +52,7 @@ settled-by ks w (read g) a =
     ∙ ap (or_owed (identified ks)) (sym a.0)
   where
     by : (b : Bool) → (request_answer (cond (cond b false true) (refused refusal.Owed) (read g.request))).verdict
-        ≡ cond b verdict.Accepted (verdict.Refused refusal.Owed)
+        ≡ cond b (Ok tt) (Err refusal.Owed)
     by true = refl
     by false = refl
 
@@ -78,8 +78,8 @@ owed-payload strict p = by (ltb 256 (length p))
   where
     by : (b : Bool) →
         or_owed (identified (known_in request_labels (pairs_in strict p)))
-        (cond b (verdict.Refused refusal.Long) (scan_verdict (labels_verdict request_labels []) (payload_by (head_by strict) p)))
-        ≡ cond b (verdict.Refused refusal.Long) (scan_verdict request_verdict (payload_by (head_by strict) p))
+        (cond b (Err refusal.Long) (scan_verdict (labels_verdict request_labels []) (payload_by (head_by strict) p)))
+        ≡ cond b (Err refusal.Long) (scan_verdict request_verdict (payload_by (head_by strict) p))
     by true = refl
     by false = owed-inside (payload_by (head_by strict) p)
 

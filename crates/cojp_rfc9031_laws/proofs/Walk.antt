@@ -1,5 +1,6 @@
 -- An object that tells known labels from unknown ones, and those that came from those that did not, and never refuses a value, is refused
 -- by labels alone: by induction on the pairs. What holds after each label that is taken holds of what is read.
+use Rattle.std.specs.Prelude.{Ok, Err}
 use Prim.Native.Nat.{ℕ}
 use mathlib.Core.Path.{◌≡◌, refl, sym, subst}
 use mathlib.Core.Bool.{Bool, true, false, cond}
@@ -8,8 +9,7 @@ use lib.Dec.{ltb}
 use lib.ListN.{length}
 use lib.Seq.{append_snoc}
 use Rattle.refusal.specs.declared.Refusal.TheVariants as refusal
-use Rattle.refusal.specs.declared.Verdict.{Verdict}
-use Rattle.refusal.specs.declared.Verdict.TheVariants as verdict
+use Rattle.refusal.specs.Verdict.{Verdict}
 use Rattle.cbor.specs.Decode.{Outcome, payload_by}
 use Rattle.cbor.specs.Decode as decode
 use Rattle.cbor.specs.Item.{Item, Pairs, unsigned, negative, bytes, text, array, map_item, tag, simple, float, empty, pair}
@@ -32,8 +32,8 @@ Took P (read s) = P s
 
 -- a verdict, and what holds of what was read where it accepts
 abbrev pub Agrees : {S : Type 0} → Verdict → (S → Type 0) → Reading S → Type 0
-Agrees w P (refused k) = w ≡ verdict.Refused k
-Agrees w P (read s) = (w ≡ verdict.Accepted) × P s
+Agrees w P (refused k) = w ≡ Err k
+Agrees w P (read s) = (w ≡ Ok tt) × P s
 
 module _ {S : Type 0} (F : Form S) (known : List ℕ) (R : List Known → S → Type 0)
     (stands : (ks : List Known) (s : S) → R ks s → (n : ℕ) → F.standing s n ≡ stands_by known (labels_of ks) n)
@@ -69,7 +69,7 @@ module _ {S : Type 0} (F : Form S) (known : List ℕ) (R : List Known → S → 
     where
       by : (a b : Bool) → is_in n known ≡ a → is_in n (labels_of ks) ≡ b →
           Agrees
-          (cond a (cond b (verdict.Refused refusal.Twice) (labels_verdict known (labels_of ks ++ (n ∷ [])) ps))
+          (cond a (cond b (Err refusal.Twice) (labels_verdict known (labels_of ks ++ (n ∷ [])) ps))
           (labels_verdict known (labels_of ks) ps))
           (R (ks ++ cond a (known_of n v ∷ known_in known ps) (known_in known ps)))
           (bind (known_read F (cond a (stood b) Unknown) s n v) (λ t. pairs_read F t ps))
@@ -102,7 +102,7 @@ module _ {S : Type 0} (F : Form S) (known : List ℕ) (R : List Known → S → 
     payload-agrees strict p = by (ltb 256 (length p))
       where
         by : (b : Bool) →
-            Agrees (cond b (verdict.Refused refusal.Long) (scan_verdict (labels_verdict known []) (payload_by (head_by strict) p)))
+            Agrees (cond b (Err refusal.Long) (scan_verdict (labels_verdict known []) (payload_by (head_by strict) p)))
             (R (known_in known (pairs_in strict p))) (cond b (refused refusal.Long) (scanned_read F s (payload_by (head_by strict) p)))
         by true = refl
         by false = scan-agrees (payload_by (head_by strict) p)

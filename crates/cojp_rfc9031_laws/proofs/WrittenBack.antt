@@ -1,4 +1,5 @@
 -- What was read is in range, and its parts take no more bytes than their values did; they are few, so the map's head is one byte.
+use Rattle.std.specs.Prelude.{Ok}
 use Prim.Native.Nat.{ℕ, ◌+◌, ◌≤◌}
 use native.Mathlib.Omega.{arith}
 use mathlib.Core.Path.{◌≡◌, refl, sym, ap, subst, ◌∙◌}
@@ -9,7 +10,6 @@ use lib.ListN.{length, length-append}
 use borrow.Author.Tests.{le-leb}
 use Rattle.refusal.specs.RefusalLemmas.{refused-not}
 use Rattle.refusal.specs.declared.Refusal.TheVariants as refusal
-use Rattle.refusal.specs.declared.Verdict.TheVariants.{Accepted}
 use Rattle.byte_io.specs.BigEndian.{digits, bytes_of}
 use Rattle.cbor.specs.Decode.{payload_by, decode_by, heading, argument, next, members, pairs, major_of}
 use Rattle.cbor.specs.Encode.{encode, encode_pairs, shortest, info_of, extra_of}
@@ -165,30 +165,30 @@ module _ (laws : ItemLaws) (H : HeadLaws) where
       }
 
   module _ (R : ReadsInRange) (S : StrictReaders) where
-    ordinary : (v : Version) (p : List ℕ) → Bytes p → (read_configuration_as v p).verdict ≡ Accepted →
+    ordinary : (v : Version) (p : List ℕ) → Bytes p → (read_configuration_as v p).verdict ≡ Ok tt →
         WritesWithin (configuration_plan v (read_configuration_as v p).configuration) p
     ordinary v p b e =
         by (payload_read_by (configuration_form v) heading empty_configuration p)
         (payload-bound (configuration_form v) Sized wider passing (taking laws H v) laws H empty_configuration none-sized p b)
         e (R v p e)
       where
-        by : (r : Reading Configuration) → Gives (Within Sized p) r → (configuration_answer r).verdict ≡ Accepted →
+        by : (r : Reading Configuration) → Gives (Within Sized p) r → (configuration_answer r).verdict ≡ Ok tt →
             InRange v (configuration_answer r).configuration → WritesWithin (configuration_plan v (configuration_answer r).configuration) p
         by (refused k) g q h = refused-not k q
         by (read c) g q h = configuration-writes v p c h g
 
-    strict_same : (v : Version) (strict : Bool) (p : List ℕ) → (read_configuration_by v (head_by strict) p).verdict ≡ Accepted →
+    strict_same : (v : Version) (strict : Bool) (p : List ℕ) → (read_configuration_by v (head_by strict) p).verdict ≡ Ok tt →
         read_configuration_by v (head_by strict) p ≡ read_configuration_as v p
     strict_same v false p e = refl
     strict_same v true p e =
         S.configuration v p ∙ by (meets_longer p) (ap (λ (r : ConfigurationRead). r.verdict) (sym (S.configuration v p)) ∙ e)
       where
-        by : (b : Bool) → (cond b (refuse_configuration refusal.Loose) (read_configuration_as v p)).verdict ≡ Accepted →
+        by : (b : Bool) → (cond b (refuse_configuration refusal.Loose) (read_configuration_as v p)).verdict ≡ Ok tt →
             cond b (refuse_configuration refusal.Loose) (read_configuration_as v p) ≡ read_configuration_as v p
         by true q = refused-not refusal.Loose q
         by false q = refl
 
-    either : (v : Version) (strict : Bool) (p : List ℕ) → Bytes p → (read_configuration_by v (head_by strict) p).verdict ≡ Accepted →
+    either : (v : Version) (strict : Bool) (p : List ℕ) → Bytes p → (read_configuration_by v (head_by strict) p).verdict ≡ Ok tt →
         WritesWithin (configuration_plan v (read_configuration_by v (head_by strict) p).configuration) p
     either v strict p b e =
         let same = strict_same v strict p e in

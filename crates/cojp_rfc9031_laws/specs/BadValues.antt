@@ -1,10 +1,9 @@
 -- Ways in which docs/RFC9031.md has a value of the published form bad, or just good: payloads, and what each is answered with, its reports
 -- or a refusal. A table for each parameter, and one statement.
-use Rattle.std.specs.Prelude.{ℕ, ◌≡◌, true, false, List, [], ◌∷◌, ◌++◌, replicate}
+use Rattle.std.specs.Prelude.{ℕ, ◌≡◌, true, false, List, [], ◌∷◌, ◌++◌, replicate, Ok, Err}
 use Rattle.refusal.specs.declared.Refusal.{Refusal}
 use Rattle.refusal.specs.declared.Refusal.TheVariants as refusal
-use Rattle.refusal.specs.declared.Verdict.{Verdict}
-use Rattle.refusal.specs.declared.Verdict.TheVariants as verdict
+use Rattle.refusal.specs.Verdict.{Verdict}
 use Rattle.link_key.specs.Key.{key_with_additional_info}
 use Rattle.link_key.specs.declared.additional_info.AdditionalInfo.TheVariants.{Absent}
 use Rattle.cojp.specs.Address.{address_of, address_parameter}
@@ -32,8 +31,8 @@ pub record Row : Type 0 where
 
 -- the reports beside the verdict
 abbrev pub said : Verdict → List ErrorReport → Answered
-said verdict.Accepted f = reports f
-said (verdict.Refused k) f = refused k
+said (Ok tt) f = reports f
+said (Err k) f = refused k
 
 abbrev pub said_of_configuration : ConfigurationRead → Answered
 said_of_configuration r = said r.verdict (error_report_list (error_reports_of r.configuration))

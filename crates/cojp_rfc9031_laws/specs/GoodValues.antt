@@ -1,7 +1,6 @@
 -- Of every payload of the published form that is accepted: what the object has of each parameter is what specs/Good.antt says of the value
 -- that came with its label.
-use Rattle.std.specs.Prelude.{ℕ, ◌≡◌, Bool, true, false, List, [], ◌∷◌, eqb}
-use Rattle.refusal.specs.declared.Verdict.TheVariants.{Accepted}
+use Rattle.std.specs.Prelude.{ℕ, ◌≡◌, Bool, true, false, List, [], ◌∷◌, eqb, Ok}
 use Rattle.cbor.specs.Laws.{Bytes}
 use Rattle.cbor.specs.View.{View}
 use Rattle.cojp.specs.ErrorReports.{error_report_of}
@@ -46,8 +45,8 @@ pub record Requested (ks : List Known) (q : JoinRequest) : Type 0 where
 -- read strictly or not; a payload is bytes
 pub record GoodValues : Type 0 where
   pub configuration :
-      (strict : Bool) (p : List ℕ) → Bytes p → (configuration_of strict p).verdict ≡ Accepted →
+      (strict : Bool) (p : List ℕ) → Bytes p → (configuration_of strict p).verdict ≡ Ok tt →
       Configured (known_in configuration_labels (pairs_in strict p)) (configuration_of strict p).configuration
   pub request :
-      (strict : Bool) (p : List ℕ) → Bytes p → (request_of strict p).verdict ≡ Accepted →
+      (strict : Bool) (p : List ℕ) → Bytes p → (request_of strict p).verdict ≡ Ok tt →
       Requested (known_in request_labels (pairs_in strict p)) (request_of strict p).request

@@ -1,6 +1,5 @@
 -- The reports of a payload of the published form, in payload order.
-use Rattle.std.specs.Prelude.{ℕ, ◌+◌, ◌≤◌, ◌≡◌, Bool, true, false, cond, not, List, [], ◌∷◌, ◌++◌, eqb, leb, length}
-use Rattle.refusal.specs.declared.Verdict.TheVariants.{Accepted}
+use Rattle.std.specs.Prelude.{ℕ, ◌+◌, ◌≤◌, ◌≡◌, Bool, true, false, cond, not, List, [], ◌∷◌, ◌++◌, eqb, leb, length, Ok}
 use Rattle.cbor.specs.View.{number, minus, string, other, View, scalar, list}
 use Rattle.cojp.specs.ErrorReports.{error_report_of, error_report_list}
 use Rattle.cojp.specs.Lists.{unsupported_taken}
@@ -51,19 +50,19 @@ times_in n (x ∷ xs) = cond (eqb n x.label) (times_in n xs + 1) (times_in n xs)
 pub record ReportsInOrder : Type 0 where
   -- what came: the known labels of the map, in payload order
   pub met :
-      (strict : Bool) (p : List ℕ) → (configuration_of strict p).verdict ≡ Accepted →
+      (strict : Bool) (p : List ℕ) → (configuration_of strict p).verdict ≡ Ok tt →
       error_report_list (configuration_of strict p).configuration.labels ≡ malformed (known_in configuration_labels (pairs_in strict p))
   -- the reports of any configuration: the bad ones of what came; there are five places
   pub reports : (c : Configuration) → length (error_report_list c.labels) ≤ 5
       → error_report_list (error_reports_of c) ≡ bad_among c (error_report_list c.labels)
   -- so what was bad is reported once, and nothing else is
   pub once :
-      (strict : Bool) (p : List ℕ) → (configuration_of strict p).verdict ≡ Accepted → (n : ℕ) →
+      (strict : Bool) (p : List ℕ) → (configuration_of strict p).verdict ≡ Ok tt → (n : ℕ) →
       let c = (configuration_of strict p).configuration in
       times_in n (error_report_list (error_reports_of c)) ≡ cond (is_discarded (report_at c n)) 1 0
   -- and a known label is absent exactly where it did not come
   pub absent :
-      (strict : Bool) (p : List ℕ) → (configuration_of strict p).verdict ≡ Accepted → (n : ℕ) → is_in n configuration_labels ≡ true →
+      (strict : Bool) (p : List ℕ) → (configuration_of strict p).verdict ≡ Ok tt → (n : ℕ) → is_in n configuration_labels ≡ true →
       is_absent (report_at (configuration_of strict p).configuration n)
       ≡ not (is_in n (labels_of (known_in configuration_labels (pairs_in strict p))))
   -- all five bad, the last label first
@@ -107,10 +106,10 @@ role_in (k ∷ ks) = cond (eqb k.label 1) (role_read k.value) (role_in ks)
 
 pub record RequestInOrder : Type 0 where
   pub reports :
-      (strict : Bool) (p : List ℕ) → (request_of strict p).verdict ≡ Accepted →
+      (strict : Bool) (p : List ℕ) → (request_of strict p).verdict ≡ Ok tt →
       error_report_list (request_of strict p).request.errors ≡ request_reports (known_in request_labels (pairs_in strict p))
   pub role :
-      (strict : Bool) (p : List ℕ) → (request_of strict p).verdict ≡ Accepted →
+      (strict : Bool) (p : List ℕ) → (request_of strict p).verdict ≡ Ok tt →
       (request_of strict p).request.role ≡ role_in (known_in request_labels (pairs_in strict p))
   -- a list of no reports, then a role of 2
   pub example :

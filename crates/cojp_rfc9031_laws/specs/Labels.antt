@@ -1,8 +1,7 @@
 -- The labels of a map of the published form (docs/RFC9031.md): which are known, in which order they came, and what they refuse alone.
-use Rattle.std.specs.Prelude.{ℕ, Bool, cond, List, [], ◌∷◌, ◌++◌, eqb, ltb, length}
+use Rattle.std.specs.Prelude.{ℕ, Bool, cond, List, [], ◌∷◌, ◌++◌, eqb, ltb, length, Ok, Err}
 use Rattle.refusal.specs.declared.Refusal.TheVariants as refusal
-use Rattle.refusal.specs.declared.Verdict.{Verdict}
-use Rattle.refusal.specs.declared.Verdict.TheVariants as verdict
+use Rattle.refusal.specs.Verdict.{Verdict}
 use Rattle.cbor.specs.Decode.{Outcome, refused, got, payload_by}
 use Rattle.cbor.specs.Item.{Item, Pairs, empty, pair}
 use Rattle.cbor.specs.Strict.{head_by}
@@ -48,23 +47,23 @@ module _ (known : List ℕ) where
 
   -- ---- the labels alone: one that is no integer is TYPE, a known one that came before is TWICE, and no value is looked at
   abbrev pub label_verdict : List ℕ → Label → (List ℕ → Verdict) → Verdict
-  label_verdict seen label.NoInteger rest = verdict.Refused refusal.«Type»
+  label_verdict seen label.NoInteger rest = Err refusal.«Type»
   label_verdict seen label.Negative rest = rest seen
   label_verdict seen (label.Number n) rest =
-      cond (is_in n known) (cond (is_in n seen) (verdict.Refused refusal.Twice) (rest (seen ++ (n ∷ [])))) (rest seen)
+      cond (is_in n known) (cond (is_in n seen) (Err refusal.Twice) (rest (seen ++ (n ∷ [])))) (rest seen)
 
   -- all labels of a map, `seen` having come before it
   abbrev pub labels_verdict : List ℕ → Pairs → Verdict
-  labels_verdict seen empty = verdict.Accepted
+  labels_verdict seen empty = Ok tt
   labels_verdict seen (pair k v ps) = label_verdict seen (label_of k) (λ s. labels_verdict s ps)
 
 -- ---- a payload: LONG, what the scan refuses, TYPE where its outermost item is no map, and then what its pairs say
 abbrev pub scan_verdict : (Pairs → Verdict) → Outcome Item → Verdict
-scan_verdict say (refused k) = verdict.Refused k
-scan_verdict say (got i t) = if_map say (verdict.Refused refusal.«Type») i
+scan_verdict say (refused k) = Err k
+scan_verdict say (got i t) = if_map say (Err refusal.«Type») i
 
 abbrev pub payload_verdict : (Pairs → Verdict) → Bool → List ℕ → Verdict
-payload_verdict say strict p = cond (ltb 256 (length p)) (verdict.Refused refusal.Long) (scan_verdict say (payload_by (head_by strict) p))
+payload_verdict say strict p = cond (ltb 256 (length p)) (Err refusal.Long) (scan_verdict say (payload_by (head_by strict) p))
 
 -- the pairs of its outermost map
 abbrev pub map_pairs : Outcome Item → Pairs

@@ -1,6 +1,5 @@
 -- How many labels were passed over, in either form: each pair of the outermost map whose label is not known, a negative one included.
-use Rattle.std.specs.Prelude.{ℕ, ◌+◌, ◌≡◌, Bool, false, cond, List, [], ◌∷◌}
-use Rattle.refusal.specs.declared.Verdict.TheVariants.{Accepted}
+use Rattle.std.specs.Prelude.{ℕ, ◌+◌, ◌≡◌, Bool, false, cond, List, [], ◌∷◌, Ok}
 use Rattle.cbor.specs.Item.{Pairs, empty, pair}
 use Rattle.cbor.specs.Strict.{head_by}
 use Rattle.cbor.specs.View.{label_of}
@@ -40,10 +39,10 @@ passed_in_request v strict p = (read_request_by v (head_by strict) p).request.un
 
 pub record UnknownCount : Type 0 where
   pub configuration :
-      (v : Version) (strict : Bool) (p : List ℕ) → (read_configuration_by v (head_by strict) p).verdict ≡ Accepted →
+      (v : Version) (strict : Bool) (p : List ℕ) → (read_configuration_by v (head_by strict) p).verdict ≡ Ok tt →
       passed_in_configuration v strict p ≡ unknown_in (configuration_known v) (pairs_in strict p)
   pub request :
-      (v : Version) (strict : Bool) (p : List ℕ) → (read_request_by v (head_by strict) p).verdict ≡ Accepted →
+      (v : Version) (strict : Bool) (p : List ℕ) → (read_request_by v (head_by strict) p).verdict ≡ Ok tt →
       passed_in_request v strict p ≡ unknown_in (request_known v) (pairs_in strict p)
   -- a negative label, a network identifier, a join rate, and reports: of these a configuration knows the rate alone
   pub three-passed :

@@ -1,9 +1,8 @@
 -- In the published form a bad value never refuses a payload: the verdict is told by the scan and the labels, and at a join request by
 -- whether the network identifier is good.
-use Rattle.std.specs.Prelude.{ℕ, ◌≡◌, Bool, false, cond, ◌&&◌, List, [], ◌∷◌, eqb, leb, length}
+use Rattle.std.specs.Prelude.{ℕ, ◌≡◌, Bool, false, cond, ◌&&◌, List, [], ◌∷◌, eqb, leb, length, Ok, Err}
 use Rattle.refusal.specs.declared.Refusal.TheVariants as refusal
-use Rattle.refusal.specs.declared.Verdict.{Verdict}
-use Rattle.refusal.specs.declared.Verdict.TheVariants as verdict
+use Rattle.refusal.specs.Verdict.{Verdict}
 use Rattle.cbor.specs.Item.{Pairs}
 use Rattle.cbor.specs.Strict.{head_by}
 use Rattle.cbor.specs.View.{number, minus, string, other, View, scalar, list}
@@ -29,8 +28,8 @@ identified ks = any_of (λ (k : Known). eqb k.label 5 && is_identifier k.value) 
 
 -- a request without one is OWED, once nothing else refuses it
 abbrev pub or_owed : Bool → Verdict → Verdict
-or_owed good verdict.Accepted = cond good verdict.Accepted (verdict.Refused refusal.Owed)
-or_owed good (verdict.Refused k) = verdict.Refused k
+or_owed good (Ok tt) = cond good (Ok tt) (Err refusal.Owed)
+or_owed good (Err k) = Err k
 
 abbrev pub configuration_verdict : Pairs → Verdict
 configuration_verdict ps = labels_verdict configuration_labels [] ps
@@ -49,4 +48,4 @@ pub record BadNeverRefuses : Type 0 where
   pub configuration : (strict : Bool) (p : List ℕ) → (configuration_of strict p).verdict ≡ payload_verdict configuration_verdict strict p
   pub request : (strict : Bool) (p : List ℕ) → (request_of strict p).verdict ≡ payload_verdict request_verdict strict p
   -- a JRC address that is no byte string, alone in its payload
-  pub example : (configuration_of false (0xA1 ∷ 0x04 ∷ 0x00 ∷ [])).verdict ≡ verdict.Accepted
+  pub example : (configuration_of false (0xA1 ∷ 0x04 ∷ 0x00 ∷ [])).verdict ≡ Ok tt

@@ -1,6 +1,5 @@
 -- What was read can be written, in at most as many bytes: shortest heads, and what is omitted, only shrink it.
-use Rattle.std.specs.Prelude.{ℕ, ◌≤◌, ◌≡◌, Bool, false, List, [], ◌∷◌, length}
-use Rattle.refusal.specs.declared.Verdict.TheVariants.{Accepted}
+use Rattle.std.specs.Prelude.{ℕ, ◌≤◌, ◌≡◌, Bool, false, List, [], ◌∷◌, length, Ok}
 use Rattle.byte_io.specs.Write.{Plan, emit}
 use Rattle.cbor.specs.Laws.{Bytes}
 use Rattle.cbor.specs.Strict.{head_by}
@@ -19,10 +18,10 @@ pub record WritesWithin (plan : Plan) (p : List ℕ) : Type 0 where
 -- either form, read strictly or not; a payload is bytes
 pub record WrittenBack : Type 0 where
   pub request :
-      (v : Version) (strict : Bool) (p : List ℕ) → Bytes p → (read_request_by v (head_by strict) p).verdict ≡ Accepted →
+      (v : Version) (strict : Bool) (p : List ℕ) → Bytes p → (read_request_by v (head_by strict) p).verdict ≡ Ok tt →
       WritesWithin (request_plan v (read_request_by v (head_by strict) p).request) p
   pub configuration :
-      (v : Version) (strict : Bool) (p : List ℕ) → Bytes p → (read_configuration_by v (head_by strict) p).verdict ≡ Accepted →
+      (v : Version) (strict : Bool) (p : List ℕ) → Bytes p → (read_configuration_by v (head_by strict) p).verdict ≡ Ok tt →
       WritesWithin (configuration_plan v (read_configuration_by v (head_by strict) p).configuration) p
   -- document 01's M2, whose map has a head of two bytes, is written as M1
   pub example :

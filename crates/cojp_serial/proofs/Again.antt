@@ -1,5 +1,6 @@
 -- From a reset on the first end finds the arrival overrun or open. Where it is open the end is marked, and then only a part that passes 256
 -- changes what an end is answered: from PHASE to LONG.
+use Rattle.std.specs.Prelude.{Err}
 use Prim.Native.Nat.{ℕ, ◌+◌, ◌≤◌, ◌<◌}
 use mathlib.Core.Path.{◌≡◌, refl, ap, sym, ◌∙◌}
 use mathlib.Core.Bool.{Bool, true, false, cond, ◌||◌}
@@ -9,7 +10,6 @@ use borrow.Author.Tests.{ltb-true, ltb-false}
 use lib.Dec.{ltb}
 use lib.ListN.{length}
 use Rattle.refusal.specs.declared.Refusal.TheVariants.{Long, Phase}
-use Rattle.refusal.specs.declared.Verdict.TheVariants.{Refused}
 use Rattle.cojp_serial.specs.State.{placed, grown, end_marked, part_answer}
 use Rattle.cojp_serial.specs.Calls.{Reader, request, configuration, SerialCall, resetting, sending, ending, Held, decision_on}
 use Rattle.cojp_serial.specs.Calls.{told, left, left_by, verdict_in, says_long, long_part_in}
@@ -22,7 +22,7 @@ use Rattle.cojp_serial.proofs.Until.{Over, over-course, over-part, over-end, end
 
 -- ---- the answer to an end after the calls cs
 abbrev Answered : List SerialCall → Held → Reader → Type 0
-Answered cs h r = verdict_in (told (ending r) (left_by cs h)) ≡ cond (long_part_in cs h) (Refused Long) (Refused Phase)
+Answered cs h r = verdict_in (told (ending r) (left_by cs h)) ≡ cond (long_part_in cs h) (Err Long) (Err Phase)
 
 long_after : (cs : List SerialCall) (h : Held) (r : Reader) → NoReset cs → Over h → IsLong (verdict_in (told (ending r) (left_by cs h)))
 long_after [] h r no-calls w = end-is-long r h (over-course h 0 w)
@@ -31,7 +31,7 @@ long_after (sending p ∷ cs) h r (part-next q) w =
     long_after cs (left (sending p) h) r q (over-part h p (over-course h (length p) w) w.limited)
 long_after (ending e ∷ cs) h r (end-next q) w = long_after cs (left (ending e) h) r q (over-end h e w)
 
-end-is-phase : (r : Reader) (h : Held) → decision_on h 0 ≡ Ended → verdict_in (told (ending r) h) ≡ Refused Phase
+end-is-phase : (r : Reader) (h : Held) → decision_on h 0 ≡ Ended → verdict_in (told (ending r) h) ≡ Err Phase
 end-is-phase (request v strict) h e = rw e
 end-is-phase (configuration v strict) h e = rw e
 
@@ -43,7 +43,7 @@ passing p cs h n r q w m =
     let over = over-part h p e (record { store = w.store; arrived = w.limited }) in
     let later = long_part_in cs (left (sending p) h) in
     let this =
-    ap (λ (x : PartDecision). cond (says_long (part_answer x h.state (length p)).verdict || later) (Refused Long) (Refused Phase)) e in
+    ap (λ (x : PartDecision). cond (says_long (part_answer x h.state (length p)).verdict || later) (Err Long) (Err Phase)) e in
     long_after cs (left (sending p) h) r q over ∙ sym this
 
 -- ---- once an end is marked

@@ -1,5 +1,6 @@
 -- Of a lent length a call looks only at whether it is under 256, and no call reaches beyond the first 256 bytes: so a longer loan changes
 -- nothing, and a shorter one is refused before anything changes.
+use Rattle.std.specs.Prelude.{Err}
 use Prim.Native.Nat.{ℕ, ◌+◌, ◌≤◌, ◌<◌}
 use mathlib.Core.Path.{◌≡◌, refl, ap, sym, ◌∙◌}
 use mathlib.Core.Bool.{Bool, true, false}
@@ -11,7 +12,6 @@ use lib.ListN.{length, take, drop, length-take, take-append-drop}
 use lib.Seq.{take-take, drop-append-le}
 use Rattle.refusal.specs.declared.Refusal.{Refusal}
 use Rattle.refusal.specs.declared.Refusal.TheVariants.{Range}
-use Rattle.refusal.specs.declared.Verdict.TheVariants.{Refused}
 use Rattle.cbor.specs.Strict.{head_by}
 use Rattle.cojp.specs.Configuration.{refuse_configuration, read_configuration_by}
 use Rattle.cojp.specs.Request.{refuse_request, read_request_by}
@@ -121,7 +121,7 @@ module _ (l : Loan) (ls : List Loan) (h : Held) where
     leaves = rw (e, f) w.leaves;
   }
 
-  pass : suffices l ≡ false → verdict_in (loan_told l h) ≡ Refused Range → loan_left l h ≡ h → AsServed ls h → AsServed (l ∷ ls) h
+  pass : suffices l ≡ false → verdict_in (loan_told l h) ≡ Err Range → loan_left l h ≡ h → AsServed ls h → AsServed (l ∷ ls) h
   pass e t f w = record {
     says = rw (e, f) (lent-short e t w.says);
     leaves = rw (e, f) w.leaves;

@@ -1,4 +1,5 @@
 -- The numbers of a part and of an end, by the three tests of its decision; behind them comes the reading's own number.
+use Rattle.std.specs.Prelude.{Err}
 use Prim.Native.Nat.{ℕ, zero, suc}
 use mathlib.Core.Path.{◌≡◌, refl, ◌∙◌}
 use mathlib.Core.Bool.{Bool, true, false, cond, not}
@@ -9,8 +10,7 @@ use Rattle.refusal.specs.Refusal.{number_of}
 use Rattle.refusal.specs.Verdict.{verdict_number}
 use Rattle.refusal.specs.declared.Refusal.{Refusal}
 use Rattle.refusal.specs.declared.Refusal.TheVariants.{Long, Phase, Range}
-use Rattle.refusal.specs.declared.Verdict.{Verdict}
-use Rattle.refusal.specs.declared.Verdict.TheVariants.{Refused}
+use Rattle.refusal.specs.Verdict.{Verdict}
 use Rattle.cbor.specs.Strict.{head_by}
 use Rattle.cojp.specs.Configuration.{refuse_configuration, read_configuration_by}
 use Rattle.cojp.specs.Request.{refuse_request, read_request_by}
@@ -46,7 +46,7 @@ last-number : (n : ℕ) → n ≡ in_order (n ∷ [])
 last-number zero = refl
 last-number (suc n) = refl
 
-module _ {A : Type 0} (verdict : A → Verdict) (refuse : Refusal → A) (fits : (k : Refusal) → verdict (refuse k) ≡ Refused k)
+module _ {A : Type 0} (verdict : A → Verdict) (refuse : Refusal → A) (fits : (k : Refusal) → verdict (refuse k) ≡ Err k)
     (reader : List ℕ → A) (p : List ℕ) where
   end-number : (x y z : Bool)
       → verdict_number (verdict (end_read refuse reader (decided x y z) p)) ≡ in_order

@@ -1,4 +1,5 @@
 -- A refused part or end, by its course: only where the part passes 256, or the reading refuses what arrived, has the arrival changed.
+use Rattle.std.specs.Prelude.{Err}
 use Prim.Native.Nat.{ℕ}
 use mathlib.Core.Path.{◌≡◌, refl}
 use mathlib.Core.Bool.{Bool}
@@ -6,7 +7,6 @@ use mathlib.Core.List.{List}
 use native.Mathlib.Omega.{arith}
 use lib.ListN.{length, take}
 use Rattle.refusal.specs.declared.Refusal.{Refusal}
-use Rattle.refusal.specs.declared.Verdict.TheVariants.{Refused}
 use Rattle.cbor.specs.Strict.{head_by}
 use Rattle.cojp.specs.Configuration.{empty_configuration, refuse_configuration, read_configuration_by}
 use Rattle.cojp.specs.Laws.{ReadersDemand1}
@@ -20,14 +20,14 @@ use Rattle.cojp_serial.specs.declared.state.PartDecision.TheVariants.{Outside, O
 
 -- ---- a part
 module _ (h : Held) (p : List ℕ) (k : Refusal) where
-  part-store : (x : PartDecision) → (part_answer x h.state (length p)).verdict ≡ Refused k
+  part-store : (x : PartDecision) → (part_answer x h.state (length p)).verdict ≡ Err k
       → part_store x h.state.arrived p h.store ≡ h.store
   part-store Outside e = refl
   part-store Overrun e = refl
   part-store Ended e = refl
   part-store Open e = absurd (let z : ◌≡◌ {A = ℕ} 0 1 = cc in omega arith)
 
-  part_left : (x : PartDecision) → (part_answer x h.state (length p)).verdict ≡ Refused k
+  part_left : (x : PartDecision) → (part_answer x h.state (length p)).verdict ≡ Err k
       → Left (sending p) h k (part_answer x h.state (length p)).state
   part_left Outside e = as_before refl
   part_left Overrun e = overrun-marked {k = k} (cc) refl
@@ -37,7 +37,7 @@ module _ (h : Held) (p : List ℕ) (k : Refusal) where
 -- ---- an end
 module _ (demand1 : ReadersDemand1) (h : Held) (k : Refusal) where
   request-object : (v : Version) (strict : Bool) (x : PartDecision) (p : List ℕ)
-      → (end_read refuse_request (read_request_by v (head_by strict)) x p).verdict ≡ Refused k
+      → (end_read refuse_request (read_request_by v (head_by strict)) x p).verdict ≡ Err k
       → (end_read refuse_request (read_request_by v (head_by strict)) x p).request ≡ empty_request
   request-object v strict Outside p e = refl
   request-object v strict Overrun p e = refl
@@ -45,19 +45,19 @@ module _ (demand1 : ReadersDemand1) (h : Held) (k : Refusal) where
   request-object v strict Open p e = demand1.request v (head_by strict) p k e
 
   configuration-object : (v : Version) (strict : Bool) (x : PartDecision) (p : List ℕ)
-      → (end_read refuse_configuration (read_configuration_by v (head_by strict)) x p).verdict ≡ Refused k
+      → (end_read refuse_configuration (read_configuration_by v (head_by strict)) x p).verdict ≡ Err k
       → (end_read refuse_configuration (read_configuration_by v (head_by strict)) x p).configuration ≡ empty_configuration
   configuration-object v strict Outside p e = refl
   configuration-object v strict Overrun p e = refl
   configuration-object v strict Ended p e = refl
   configuration-object v strict Open p e = demand1.configuration v (head_by strict) p k e
 
-  end-object : (r : Reader) → verdict_in (told (ending r) h) ≡ Refused k → EmptyBeside (told (ending r) h)
+  end-object : (r : Reader) → verdict_in (told (ending r) h) ≡ Err k → EmptyBeside (told (ending r) h)
   end-object (request v strict) e = request-object v strict (decision_on h 0) (take h.state.arrived h.store) e
   end-object (configuration v strict) e = configuration-object v strict (decision_on h 0) (take h.state.arrived h.store) e
 
   request-left : (v : Version) (strict : Bool) (x : PartDecision)
-      → (end_read refuse_request (read_request_by v (head_by strict)) x (take h.state.arrived h.store)).verdict ≡ Refused k
+      → (end_read refuse_request (read_request_by v (head_by strict)) x (take h.state.arrived h.store)).verdict ≡ Err k
       → Left (ending (request v strict)) h k (end_state x h.state)
   request-left v strict Outside e = as_before refl
   request-left v strict Overrun e = as_before refl
@@ -65,14 +65,14 @@ module _ (demand1 : ReadersDemand1) (h : Held) (k : Refusal) where
   request-left v strict Open e = marked_ended e refl
 
   configuration-left : (v : Version) (strict : Bool) (x : PartDecision)
-      → (end_read refuse_configuration (read_configuration_by v (head_by strict)) x (take h.state.arrived h.store)).verdict ≡ Refused k
+      → (end_read refuse_configuration (read_configuration_by v (head_by strict)) x (take h.state.arrived h.store)).verdict ≡ Err k
       → Left (ending (configuration v strict)) h k (end_state x h.state)
   configuration-left v strict Outside e = as_before refl
   configuration-left v strict Overrun e = as_before refl
   configuration-left v strict Ended e = as_before refl
   configuration-left v strict Open e = marked_ended e refl
 
-  end-left : (r : Reader) → verdict_in (told (ending r) h) ≡ Refused k → Left (ending r) h k (end_state (decision_on h 0) h.state)
+  end-left : (r : Reader) → verdict_in (told (ending r) h) ≡ Err k → Left (ending r) h k (end_state (decision_on h 0) h.state)
   end-left (request v strict) e = request-left v strict (decision_on h 0) e
   end-left (configuration v strict) e = configuration-left v strict (decision_on h 0) e
 

@@ -1,10 +1,10 @@
 -- A short store is the first thing that a part or an end looks at: its course is outside, and it leaves what the caller has as it was.
+use Rattle.std.specs.Prelude.{Err}
 use Prim.Native.Nat.{ℕ, ◌<◌}
 use mathlib.Core.Path.{◌≡◌, refl, ap, sym, ◌∙◌}
 use mathlib.Core.List.{List, [], ◌∷◌}
 use lib.ListN.{length}
 use Rattle.refusal.specs.declared.Refusal.TheVariants.{Range}
-use Rattle.refusal.specs.declared.Verdict.TheVariants.{Refused}
 use Rattle.cojp_serial.specs.Calls.{Reader, request, configuration, SerialCall, resetting, sending, ending, Held, decision_on}
 use Rattle.cojp_serial.specs.Calls.{told, left, left_by, answers, verdict_in, verdicts}
 use Rattle.cojp_serial.specs.Laws.{NoReset, no-calls, part-next, end-next, short_verdicts, ShortStoreIsRange}
@@ -16,10 +16,10 @@ use Rattle.cojp_serial.proofs.Unread.{both}
 outside : (h : Held) (n : ℕ) → length h.store < 256 → decision_on h n ≡ Outside
 outside h n s = sym (store-short h.state (length h.store) n s)
 
-pub part-range : (h : Held) (p : List ℕ) → length h.store < 256 → verdict_in (told (sending p) h) ≡ Refused Range
+pub part-range : (h : Held) (p : List ℕ) → length h.store < 256 → verdict_in (told (sending p) h) ≡ Err Range
 part-range h p s = rw (outside h (length p) s)
 
-pub end-range : (h : Held) (r : Reader) → length h.store < 256 → verdict_in (told (ending r) h) ≡ Refused Range
+pub end-range : (h : Held) (r : Reader) → length h.store < 256 → verdict_in (told (ending r) h) ≡ Err Range
 end-range h (request v strict) s = rw (outside h 0 s)
 end-range h (configuration v strict) s = rw (outside h 0 s)
 

@@ -1,14 +1,14 @@
 -- What a marked overrun or a marked end makes of every call until a reset: no call but that takes a mark away.
+use Rattle.std.specs.Prelude.{Ok, Err}
 use Prim.Native.Nat.{ℕ}
 use mathlib.Core.Path.{◌≡◌, refl, sym}
 use mathlib.Core.Bool.{true}
 use mathlib.Core.List.{List, [], ◌∷◌}
 use native.Mathlib.Omega.{arith}
-use lib.ListN.{length, take}
+use lib.ListN.{length}
 use Rattle.refusal.specs.declared.Refusal.{Refusal}
 use Rattle.refusal.specs.declared.Refusal.TheVariants.{Long, Phase}
-use Rattle.refusal.specs.declared.Verdict.{Verdict}
-use Rattle.refusal.specs.declared.Verdict.TheVariants.{Accepted, Refused}
+use Rattle.refusal.specs.Verdict.{Verdict}
 use Rattle.cbor.specs.Strict.{head_by}
 use Rattle.cojp.specs.Configuration.{refuse_configuration, read_configuration_by}
 use Rattle.cojp.specs.Request.{refuse_request, read_request_by}
@@ -53,7 +53,7 @@ all-long (ending r ∷ cs) h (end-next q) w =
     next-told (end-is-long r h (over-course h 0 w)) (all-long cs (left (ending r) h) q (over-end h r w))
 
 -- a part is LONG where its course is overrun
-pub long-course : (x : PartDecision) (h : Held) (n : ℕ) → (part_answer x h.state n).verdict ≡ Refused Long → x ≡ Overrun
+pub long-course : (x : PartDecision) (h : Held) (n : ℕ) → (part_answer x h.state n).verdict ≡ Err Long → x ≡ Overrun
 long-course Outside h n e = absurd (let z : ◌≡◌ {A = ℕ} 0 1 = cc in omega arith)
 long-course Overrun h n e = refl
 long-course Ended h n e = absurd (let z : ◌≡◌ {A = ℕ} 0 1 = cc in omega arith)
@@ -77,7 +77,7 @@ shut-part h p x by-overrun = long refl
 shut-part h p x by_end = phase refl
 
 shut-read : {A : Type 0} (refuse : Refusal → A) (reader : List ℕ → A) (verdict : A → Verdict) (p : List ℕ) (x : PartDecision)
-    → ((k : Refusal) → verdict (refuse k) ≡ Refused k) → Shut x → LongOrPhase (verdict (end_read refuse reader x p))
+    → ((k : Refusal) → verdict (refuse k) ≡ Err k) → Shut x → LongOrPhase (verdict (end_read refuse reader x p))
 shut-read refuse reader verdict p x says by-overrun = long (says Long)
 shut-read refuse reader verdict p x says by_end = phase (says Phase)
 
@@ -111,7 +111,7 @@ all-shut (ending r ∷ cs) h (end-next q) w =
     next-told (shut-end r h s) (all-shut cs (left (ending r) h) q (closed-end h (decision_on h 0) s w))
 
 -- a part is accepted where its course is open
-pub open-course : (x : PartDecision) (h : Held) (n : ℕ) → (part_answer x h.state n).verdict ≡ Accepted → x ≡ Open
+pub open-course : (x : PartDecision) (h : Held) (n : ℕ) → (part_answer x h.state n).verdict ≡ Ok tt → x ≡ Open
 open-course Outside h n e = absurd (let z : ◌≡◌ {A = ℕ} 0 1 = cc in omega arith)
 open-course Overrun h n e = absurd (let z : ◌≡◌ {A = ℕ} 0 1 = cc in omega arith)
 open-course Ended h n e = absurd (let z : ◌≡◌ {A = ℕ} 0 1 = cc in omega arith)

@@ -1,9 +1,8 @@
 -- Whole lists of these calls, each of which gets arrival and store as the one before left them: nothing else writes the store.
-use Rattle.std.specs.Prelude.{ℕ, ◌+◌, Bool, false, ◌||◌, List, [], ◌∷◌, ◌++◌, eqb, length}
+use Rattle.std.specs.Prelude.{ℕ, ◌+◌, Bool, false, ◌||◌, List, [], ◌∷◌, ◌++◌, eqb, length, Ok, Err}
 use Rattle.refusal.specs.Verdict.{verdict_number}
 use Rattle.refusal.specs.declared.Refusal.TheVariants.{Long}
-use Rattle.refusal.specs.declared.Verdict.{Verdict}
-use Rattle.refusal.specs.declared.Verdict.TheVariants.{Accepted, Refused}
+use Rattle.refusal.specs.Verdict.{Verdict}
 use Rattle.cbor.specs.Strict.{head_by}
 use Rattle.cojp.specs.Configuration.{read_configuration_by}
 use Rattle.cojp.specs.Request.{read_request_by}
@@ -85,7 +84,7 @@ sendings (p ∷ ps) = sending p ∷ sendings ps
 
 -- ---- the verdict of an answer
 abbrev pub verdict_in : SerialResult → Verdict
-verdict_in begun = Accepted
+verdict_in begun = Ok tt
 verdict_in (part a) = a.verdict
 verdict_in (join_request r) = r.verdict
 verdict_in (update r) = r.verdict
@@ -96,8 +95,8 @@ verdicts (t ∷ ts) = verdict_in t ∷ verdicts ts
 
 -- ---- how many bytes the accepted parts had, counted from the calls and what they were answered
 abbrev pub if_accepted : Verdict → ℕ → ℕ
-if_accepted Accepted n = n
-if_accepted (Refused k) n = 0
+if_accepted (Ok tt) n = n
+if_accepted (Err k) n = 0
 
 abbrev pub taken_by : SerialCall → SerialResult → ℕ
 taken_by resetting t = 0
@@ -110,7 +109,7 @@ taken_in (c ∷ cs) h = taken_by c (told c h) + taken_in cs (left c h)
 
 -- ---- whether a part was LONG, told in the same way
 abbrev pub says_long : Verdict → Bool
-says_long v = eqb (verdict_number v) (verdict_number (Refused Long))
+says_long v = eqb (verdict_number v) (verdict_number (Err Long))
 
 abbrev pub long_part : SerialCall → SerialResult → Bool
 long_part resetting t = false

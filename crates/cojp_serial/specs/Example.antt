@@ -3,9 +3,8 @@
 -- after another reset nothing has arrived.
 -- Then the same payload where each call is lent another length of a larger store: those that are lent too little are RANGE.
 -- Last a request with role 2, which is ROLE in the draft and accepted in the published form.
-use Rattle.std.specs.Prelude.{◌≡◌, true, false, List, [], ◌∷◌, replicate}
+use Rattle.std.specs.Prelude.{◌≡◌, true, false, List, [], ◌∷◌, replicate, Ok, Err}
 use Rattle.refusal.specs.declared.Refusal.TheVariants.{Cut, Long, Phase, Range, Role}
-use Rattle.refusal.specs.declared.Verdict.TheVariants.{Accepted, Refused}
 use Rattle.cojp.specs.Request.{read_request}
 use Rattle.protocol_version.specs.declared.Version.{Version}
 use Rattle.protocol_version.specs.declared.Version.TheVariants.{Draft, Published}
@@ -51,15 +50,15 @@ abbrev pub with_role2 : Version → List SerialCall
 with_role2 v = resetting ∷ sending (0xA2 ∷ 0x01 ∷ 0x02 ∷ []) ∷ sending (0x05 ∷ 0x42 ∷ 0xCA ∷ 0xFE ∷ []) ∷ ending (request v false) ∷ []
 
 pub record SerialExamples : Type 0 where
-  pub before : verdict_in (told (sending []) former) ≡ Refused Long
-  pub parts : verdicts (answers in_parts former) ≡ replicate 5 Accepted
+  pub before : verdict_in (told (sending []) former) ≡ Err Long
+  pub parts : verdicts (answers in_parts former) ≡ replicate 5 (Ok tt)
   pub whole : told (ending (request Draft false)) (left_by in_parts former)
       ≡ join_request (read_request (0xA1 ∷ 0x05 ∷ 0x42 ∷ 0xCA ∷ 0xFE ∷ []))
   pub then :
       verdicts (answers afterwards (left_by in_parts former)) ≡
-      Accepted ∷ Refused Phase ∷ Refused Phase ∷ Refused Long ∷ Refused Long ∷ Refused Long ∷ Accepted ∷ Refused Cut ∷ []
+      (Ok tt) ∷ Err Phase ∷ Err Phase ∷ Err Long ∷ Err Long ∷ Err Long ∷ Ok tt ∷ Err Cut ∷ []
   pub lent :
       verdicts (loan_answers in_loans larger) ≡
-      Refused Range ∷ Accepted ∷ Accepted ∷ Refused Range ∷ Accepted ∷ Refused Range ∷ Accepted ∷ Refused Range ∷ Refused Phase ∷ []
-  pub draft : verdicts (answers (with_role2 Draft) former) ≡ Accepted ∷ Accepted ∷ Accepted ∷ Refused Role ∷ []
-  pub published : verdicts (answers (with_role2 Published) former) ≡ replicate 4 Accepted
+      Err Range ∷ Ok tt ∷ Ok tt ∷ Err Range ∷ Ok tt ∷ Err Range ∷ Ok tt ∷ Err Range ∷ Err Phase ∷ []
+  pub draft : verdicts (answers (with_role2 Draft) former) ≡ Ok tt ∷ Ok tt ∷ Ok tt ∷ Err Role ∷ []
+  pub published : verdicts (answers (with_role2 Published) former) ≡ replicate 4 (Ok tt)

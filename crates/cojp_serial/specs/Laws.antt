@@ -1,13 +1,12 @@
 -- What is promised of whole lists of these calls. They are said of a store that is lent whole to each call; that the lent length may change
 -- from call to call is the last law.
-use Rattle.std.specs.Prelude.{ℕ, ◌+◌, ◌≤◌, ◌<◌, ◌≡◌, false, cond, not, List, [], ◌∷◌, leb, length, take, drop}
+use Rattle.std.specs.Prelude.{ℕ, ◌+◌, ◌≤◌, ◌<◌, ◌≡◌, false, cond, not, List, [], ◌∷◌, leb, length, take, drop, Ok, Err}
 use Rattle.refusal.specs.Order.{refused_if, in_order}
 use Rattle.refusal.specs.Refusal.{number_of}
 use Rattle.refusal.specs.Verdict.{verdict_number}
 use Rattle.refusal.specs.declared.Refusal.{Refusal}
 use Rattle.refusal.specs.declared.Refusal.TheVariants.{Long, Phase, Range}
-use Rattle.refusal.specs.declared.Verdict.{Verdict}
-use Rattle.refusal.specs.declared.Verdict.TheVariants.{Accepted, Refused}
+use Rattle.refusal.specs.Verdict.{Verdict}
 use Rattle.cojp.specs.Configuration.{empty_configuration}
 use Rattle.cojp.specs.Request.{empty_request}
 use Rattle.cojp_serial.specs.State.{overran, end_marked, valid, passes, decision_number}
@@ -49,7 +48,7 @@ pub data Left : SerialCall → Held → Refusal → SerialState → Type 0 where
   as_before : {c : SerialCall} {h : Held} {k : Refusal} {a : SerialState} → a ≡ h.state → Left c h k a
   overrun-marked : {p : List ℕ} {h : Held} {k : Refusal} {a : SerialState} → k ≡ Long → a ≡ overran h.state → Left (sending p) h k a
   marked_ended :
-      {r : Reader} {h : Held} {k : Refusal} {a : SerialState} → verdict_in (whole_read r (take h.state.arrived h.store)) ≡ Refused k →
+      {r : Reader} {h : Held} {k : Refusal} {a : SerialState} → verdict_in (whole_read r (take h.state.arrived h.store)) ≡ Err k →
       a ≡ end_marked h.state → Left (ending r) h k a
 
 pub record RefusedCall (c : SerialCall) (h : Held) (k : Refusal) : Type 0 where
@@ -58,7 +57,7 @@ pub record RefusedCall (c : SerialCall) (h : Held) (k : Refusal) : Type 0 where
   pub state : Left c h k (left c h).state
 
 abbrev pub RefusedCalls : Type 0
-RefusedCalls = (c : SerialCall) (h : Held) (k : Refusal) → verdict_in (told c h) ≡ Refused k → RefusedCall c h k
+RefusedCalls = (c : SerialCall) (h : Held) (k : Refusal) → verdict_in (told c h) ≡ Err k → RefusedCall c h k
 
 -- ---- until a reset: after a part that was LONG each call is LONG; after an end that came to its reading each is LONG or PHASE
 pub data NoReset : List SerialCall → Type 0 where
@@ -71,11 +70,11 @@ pub data Each (P : Verdict → Type 0) : List SerialResult → Type 0 where
   next-told : {t : SerialResult} {ts : List SerialResult} → P (verdict_in t) → Each P ts → Each P (t ∷ ts)
 
 abbrev pub IsLong : Verdict → Type 0
-IsLong v = v ≡ Refused Long
+IsLong v = v ≡ Err Long
 
 pub data LongOrPhase (v : Verdict) : Type 0 where
-  long : v ≡ Refused Long → LongOrPhase v
-  phase : v ≡ Refused Phase → LongOrPhase v
+  long : v ≡ Err Long → LongOrPhase v
+  phase : v ≡ Err Phase → LongOrPhase v
 
 abbrev pub LongUntilReset : Type 0
 LongUntilReset =
@@ -95,7 +94,7 @@ LongWherePassed =
 
 -- ---- each part of a payload that fits is accepted, from a reset on
 abbrev pub IsAccepted : Verdict → Type 0
-IsAccepted v = v ≡ Accepted
+IsAccepted v = v ≡ Ok tt
 
 abbrev pub FittingPartsTaken : Type 0
 FittingPartsTaken =
@@ -117,7 +116,7 @@ WritesItsOwn =
 -- an end comes to its reading where an empty part would be accepted
 abbrev pub PhaseUntilReset : Type 0
 PhaseUntilReset =
-    (h : Held) (r : Reader) (cs : List SerialCall) → verdict_in (told (sending []) h) ≡ Accepted → NoReset cs →
+    (h : Held) (r : Reader) (cs : List SerialCall) → verdict_in (told (sending []) h) ≡ Ok tt → NoReset cs →
     Each LongOrPhase (answers cs (left (ending r) h))
 
 -- ---- an end after an end, from a reset on, is LONG exactly if a part since the reset was LONG, and else PHASE
@@ -128,13 +127,13 @@ pub data HasEnd : List SerialCall → Type 0 where
 abbrev pub EndAfterEnd : Type 0
 EndAfterEnd =
     (h : Held) (cs : List SerialCall) (r : Reader) → 256 ≤ length h.store → NoReset cs → HasEnd cs →
-    verdict_in (told (ending r) (left_by cs (left resetting h))) ≡ cond (long_part_in cs (left resetting h)) (Refused Long) (Refused Phase)
+    verdict_in (told (ending r) (left_by cs (left resetting h))) ≡ cond (long_part_in cs (left resetting h)) (Err Long) (Err Phase)
 
 -- ---- a store under 256 bytes: each part and each end is RANGE, first, whatever came before, and changes nothing; a reset is never refused
 abbrev pub short_verdict : SerialCall → Verdict
-short_verdict resetting = Accepted
-short_verdict (sending p) = Refused Range
-short_verdict (ending r) = Refused Range
+short_verdict resetting = Ok tt
+short_verdict (sending p) = Err Range
+short_verdict (ending r) = Err Range
 
 abbrev pub short_verdicts : List SerialCall → List Verdict
 short_verdicts [] = []

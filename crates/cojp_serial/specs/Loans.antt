@@ -1,7 +1,6 @@
 -- Lists of calls to each of which the caller may lend another length of its store.
-use Rattle.std.specs.Prelude.{ℕ, ◌≡◌, Bool, true, false, cond, List, [], ◌∷◌, ◌++◌, leb, take, drop}
+use Rattle.std.specs.Prelude.{ℕ, ◌≡◌, Bool, true, false, cond, List, [], ◌∷◌, ◌++◌, leb, take, drop, Err}
 use Rattle.refusal.specs.declared.Refusal.TheVariants.{Range}
-use Rattle.refusal.specs.declared.Verdict.TheVariants.{Refused}
 use Rattle.cojp_serial.specs.Calls.{SerialCall, resetting, sending, ending, SerialResult, Held, told, left, verdict_in}
 
 -- a call, and how many bytes of the caller's store it is lent, from the first on
@@ -55,5 +54,5 @@ pub data RangeBetween : List Loan → List SerialResult → List SerialResult �
       {l : Loan} {ls : List Loan} {t : SerialResult} {ts us : List SerialResult} → suffices l ≡ true → RangeBetween ls ts us →
       RangeBetween (l ∷ ls) (t ∷ ts) (t ∷ us)
   lent-short :
-      {l : Loan} {ls : List Loan} {t : SerialResult} {ts us : List SerialResult} → suffices l ≡ false → verdict_in t ≡ Refused Range →
+      {l : Loan} {ls : List Loan} {t : SerialResult} {ts us : List SerialResult} → suffices l ≡ false → verdict_in t ≡ Err Range →
       RangeBetween ls ts us → RangeBetween (l ∷ ls) (t ∷ ts) us

@@ -1,9 +1,8 @@
 -- A payload that arrives in parts: what is kept beside the lent store, and what a part, an end and a reset come to.
-use Rattle.std.specs.Prelude.{ℕ, ◌+◌, ◌≡◌, Bool, true, false, cond, not, ◌&&◌, ◌||◌, List, ◌++◌, leb, ltb, length, take, drop}
+use Rattle.std.specs.Prelude.{ℕ, ◌+◌, ◌≡◌, Bool, true, false, cond, not, ◌&&◌, ◌||◌, List, ◌++◌, leb, ltb, length, take, drop, Ok, Err}
 use Rattle.refusal.specs.Refusal.{number_of}
 use Rattle.refusal.specs.declared.Refusal.{Refusal}
 use Rattle.refusal.specs.declared.Refusal.TheVariants as refusal
-use Rattle.refusal.specs.declared.Verdict.TheVariants.{Accepted, Refused}
 use Rattle.cojp.specs.Configuration.{refuse_configuration}
 use Rattle.cojp.specs.Request.{refuse_request}
 use Rattle.cojp.specs.declared.configuration.ConfigurationRead.{ConfigurationRead}
@@ -46,13 +45,13 @@ decision_number Open = 0
 
 -- ---- a part: its answer, and the store afterwards. Where it is LONG the overrun is marked, though the call is refused
 abbrev pub refused_part : Refusal → SerialState → PartResult
-refused_part k a = record { verdict = Refused k; state = a }
+refused_part k a = record { verdict = Err k; state = a }
 
 abbrev pub part_answer : PartDecision → SerialState → ℕ → PartResult
 part_answer Outside a n = refused_part refusal.Range a
 part_answer Overrun a n = refused_part refusal.Long (overran a)
 part_answer Ended a n = refused_part refusal.Phase a
-part_answer Open a n = record { verdict = Accepted; state = grown a n }
+part_answer Open a n = record { verdict = Ok tt; state = grown a n }
 
 -- p stands behind the first n bytes of the store, and nothing else changes
 abbrev pub placed : ℕ → List ℕ → List ℕ → List ℕ

@@ -3,6 +3,7 @@
 #![tactic(auto)]
 
 pub mod configuration;
+mod object;
 pub mod parts;
 pub mod request;
 pub mod state;

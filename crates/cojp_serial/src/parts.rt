@@ -3,12 +3,13 @@ ghost use Rattle.std.specs.Prelude.{◌≡◌};
 ghost use Rattle.cojp_serial.specs.State.{Parted, refused_part};
 
 use crate::state::{PartDecision, SerialState};
-use refusal::{Refusal, Verdict};
+use refusal::Refusal;
 
 // What a part is answered, and the arrival afterwards.
+// Kept: the arrival counts beside a refusal too, which may mark the overrun (`part_answer` in the clause of `part`).
 #[derive(Clone, Copy)]
 pub struct PartResult {
-    pub verdict: Verdict,
+    pub verdict: Result<(), Refusal>,
     pub state: SerialState,
 }
 
@@ -16,7 +17,7 @@ fn refused_part(why: Refusal, arrival: SerialState) -> PartResult
     ensures { result ≡ refused_part why arrival }
 {
     PartResult {
-        verdict: Verdict::Refused(why),
+        verdict: Err(why),
         state: arrival,
     }
 }
@@ -34,14 +35,12 @@ pub fn part(arrival: SerialState, store: &mut [u8], sent: &[u8]) -> PartResult
         PartDecision::Open => {
             let at = arrival.arrived;
             let n = byte_io::copy_bytes(sent, &mut store[at..]);
-            let grown = SerialState {
-                arrived: at + n,
-                overrun: arrival.overrun,
-                ended: arrival.ended,
-            };
             PartResult {
-                verdict: Verdict::Accepted,
-                state: grown,
+                verdict: Ok(()),
+                state: SerialState {
+                    arrived: at + n,
+                    ..arrival
+                },
             }
         }
     }

@@ -11,6 +11,7 @@ pub struct SerialState {
 }
 
 // How a call finds what it is handed: outside the limits (RANGE), overrun (LONG), ended (PHASE), or open to it.
+// Kept: no Result is plainer, since `part_answer` and `end_state` go by the case and not by the refusal alone.
 #[derive(Clone, Copy)]
 pub enum PartDecision {
     Outside,
@@ -36,17 +37,10 @@ impl SerialState {
     pub(crate) fn decision(self, lent: usize, n: usize) -> PartDecision
         ensures { result ≡ decision_of self lent n }
     {
-        let arrived = self.arrived;
-        if lent < 256 {
+        if lent < 256 || 256 < self.arrived {
             return PartDecision::Outside;
         }
-        if 256 < arrived {
-            return PartDecision::Outside;
-        }
-        if self.overrun {
-            return PartDecision::Overrun;
-        }
-        if 256 - arrived < n {
+        if self.overrun || 256 - self.arrived < n {
             return PartDecision::Overrun;
         }
         if self.ended {
@@ -60,9 +54,8 @@ impl SerialState {
         ensures { result ≡ overran self }
     {
         SerialState {
-            arrived: self.arrived,
             overrun: true,
-            ended: self.ended,
+            ..self
         }
     }
 
@@ -71,9 +64,8 @@ impl SerialState {
         ensures { result ≡ end_marked self }
     {
         SerialState {
-            arrived: self.arrived,
-            overrun: self.overrun,
             ended: true,
+            ..self
         }
     }
 }

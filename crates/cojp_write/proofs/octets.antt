@@ -5,4 +5,3 @@ pub mod Strings
 pub mod Maps
 pub mod Plans
 pub mod Lists
-pub mod Arrays

@@ -30,11 +30,11 @@ ghost use Rattle.cojp_write.specs.octets.Plan.{list_bytes, list_fits};
 ghost use Rattle.cojp_write.specs.octets.Size.{Sizes, PairsSize};
 
 use crate::configuration::address::{address_size, put_address};
+pub(crate) use crate::configuration::item::put_bytes;
 use crate::configuration::key_set::{keys_size, put_keys};
 use crate::configuration::rate::{put_rate, rate_size};
 use crate::octets::{Size, list_size, octets_size, plus, put_head, put_list, put_octets};
 use crate::range::object::configuration_in_range;
-use byte_io::WriteResult;
 use cojp::{Configuration, ListParameter, OctetsParameter, RateParameter};
 use protocol_version::Version;
 use refusal::Refusal;
@@ -103,30 +103,33 @@ fn put_configuration(dst: &mut [u8], c: Configuration, members: u64) -> usize
 }
 
 // What is in range: RANGE over 256 bytes, ROOM, or the length written.
-fn emit_configuration(dst: &mut [u8], c: Configuration) -> WriteResult
+fn emit_configuration(dst: &mut [u8], c: Configuration) -> Result<usize, Refusal>
     requires { ConfigurationFits c }
     ensures { Did (fits (encode (map_item (configuration_pairs c)))) dst.old result dst.new }
 {
     cbor::head_laws();
     cojp_list::laws();
     let size = configuration_size(c);
-    let members = size.members;
     let whole = 1 + size.bytes;
     if 256 < whole {
-        return WriteResult::Refused(Refusal::Range);
+        return Err(Refusal::Range);
     }
     if dst.len() < whole {
-        return WriteResult::Refused(Refusal::Room);
+        return Err(Refusal::Room);
     }
-    WriteResult::Length(put_configuration(dst, c, members as u64))
+    Ok(put_configuration(dst, c, size.members as u64))
 }
 
 // Writes a configuration in a form: RANGE, ROOM, or the length written.
-pub fn write_configuration(dst: &mut [u8], c: Configuration, version: Version) -> WriteResult
+pub fn write_configuration(
+    dst: &mut [u8],
+    c: Configuration,
+    version: Version,
+) -> Result<usize, Refusal>
     ensures { Did (configuration_plan version c) dst.old result dst.new }
 {
     if !configuration_in_range(version, c) {
-        return WriteResult::Refused(Refusal::Range);
+        return Err(Refusal::Range);
     }
     emit_configuration(dst, c)
 }

@@ -15,9 +15,9 @@ ghost use Rattle.cojp.specs.Writing.{labelled, octets_pairs};
 ghost use Rattle.cojp_write.specs.octets.Plan.{string_in_range, octets_plan};
 ghost use Rattle.cojp_write.specs.octets.Size.{PairsSize};
 
+use crate::configuration::put_bytes;
 use crate::range::parameter::{jrc_in_range, octets_in_range};
-use byte_io::WriteResult;
-use cbor::write::{head_len, write_bytes, write_head};
+use cbor::write::head_len;
 use cojp::{Octets, OctetsParameter, is_taken};
 pub(crate) use list::{list_size, write_list_parameter};
 pub(crate) use put::{put_head, put_list, put_octets};
@@ -30,10 +30,7 @@ fn known_len(value: Octets) -> usize
     ensures exact { result ≡ length (bytes_in value) }
     ensures few { result ≤ 16 }
 {
-    if value.len <= 16 {
-        return value.len;
-    }
-    16
+    value.len.min(16)
 }
 
 // How much there is to write of a parameter under a label.
@@ -41,8 +38,7 @@ pub(crate) fn octets_size(label: u64, p: OctetsParameter) -> Size
     ensures { PairsSize (octets_pairs label p) 1 26 result }
 {
     cbor::head_laws();
-    let report = p.disposition;
-    if is_taken(report) {
+    if is_taken(p.disposition) {
         return Size {
             members: 1,
             bytes: head_len(label) + 1 + known_len(p.value),
@@ -52,32 +48,26 @@ pub(crate) fn octets_size(label: u64, p: OctetsParameter) -> Size
 }
 
 // Writes a label and a byte string: ROOM, or the length written.
-fn write_string(dst: &mut [u8], label: u64, s: &[u8]) -> WriteResult
+fn write_string(dst: &mut [u8], label: u64, s: &[u8]) -> Result<usize, Refusal>
     ensures { Did (emit (encode_pairs (labelled label (bytes s.now)))) dst.old result dst.new }
 {
     cbor::head_laws();
-    let n = s.len();
-    let l = head_len(label);
-    let whole = l + head_len(n as u64) + n;
+    let whole = head_len(label) + head_len(s.len() as u64) + s.len();
     if dst.len() < whole {
-        return WriteResult::Refused(Refusal::Room);
+        return Err(Refusal::Room);
     }
-    write_head(dst, 0, label);
-    write_bytes(&mut dst[l..], s);
-    WriteResult::Length(whole)
+    let n = put_head(dst, 0, label);
+    Ok(n + put_bytes(&mut dst[n..], s))
 }
 
 // What is in range, where it is taken: ROOM, or the length written.
-fn emit_octets(dst: &mut [u8], label: u64, p: OctetsParameter) -> WriteResult
+fn emit_octets(dst: &mut [u8], label: u64, p: OctetsParameter) -> Result<usize, Refusal>
     ensures { Did (emit (encode_pairs (octets_pairs label p))) dst.old result dst.new }
 {
-    let len = known_len(p.value);
-    let bytes = p.value.bytes;
-    let report = p.disposition;
-    if is_taken(report) {
-        return write_string(dst, label, &bytes[..len]);
+    if is_taken(p.disposition) {
+        return write_string(dst, label, &p.value.bytes[..known_len(p.value)]);
     }
-    WriteResult::Length(0)
+    Ok(0)
 }
 
 // A JRC address, label 4, has 16 bytes; any other byte string at most 16.
@@ -91,11 +81,11 @@ fn string_in_range(label: u64, p: OctetsParameter) -> bool
 }
 
 // Writes a parameter under a label, where it is taken: RANGE, ROOM, or the length written.
-pub(crate) fn write_octets(dst: &mut [u8], label: u64, p: OctetsParameter) -> WriteResult
+pub(crate) fn write_octets(dst: &mut [u8], label: u64, p: OctetsParameter) -> Result<usize, Refusal>
     ensures { Did (octets_plan label p) dst.old result dst.new }
 {
     if string_in_range(label, p) {
         return emit_octets(dst, label, p);
     }
-    WriteResult::Refused(Refusal::Range)
+    Err(Refusal::Range)
 }

@@ -12,8 +12,6 @@ ghost use Rattle.protocol_version.specs.declared.Version.TheVariants.{Draft};
 
 use crate::octets::{Size, list_size, no_size, octets_size, plus, put_head, put_list, put_octets};
 use crate::range::object::request_in_range;
-use byte_io::WriteResult;
-use cbor::write::write_head;
 use cojp::{JoinRequest, is_owing};
 use protocol_version::Version;
 use refusal::Refusal;
@@ -42,9 +40,8 @@ fn put_role(dst: &mut [u8], role: u8) -> usize
 {
     cbor::head_laws();
     if role != 0 {
-        write_head(dst, 0, 1);
-        write_head(&mut dst[1..], 0, role as u64);
-        return 2;
+        let n = put_head(dst, 0, 1);
+        return n + put_head(&mut dst[n..], 0, role as u64);
     }
     0
 }
@@ -70,36 +67,33 @@ fn put_request(dst: &mut [u8], q: JoinRequest, members: u64) -> usize
 }
 
 // What is in range: RANGE over 256 bytes, OWED, ROOM, or the length written.
-pub(crate) fn emit_request(dst: &mut [u8], q: JoinRequest, owed: bool) -> WriteResult
+pub(crate) fn emit_request(dst: &mut [u8], q: JoinRequest, owed: bool) -> Result<usize, Refusal>
     requires { RequestFits q }
     ensures { Did (owing_plan owed (fits (encode (map_item (request_pairs q))))) dst.old result dst.new }
 {
     cbor::head_laws();
     cojp_list::laws();
     let size = request_size(q);
-    let members = size.members;
     let whole = 1 + size.bytes;
     if MOST < whole {
-        return WriteResult::Refused(Refusal::Range);
+        return Err(Refusal::Range);
     }
     if owed {
-        return WriteResult::Refused(Refusal::Owed);
+        return Err(Refusal::Owed);
     }
     if dst.len() < whole {
-        return WriteResult::Refused(Refusal::Room);
+        return Err(Refusal::Room);
     }
-    WriteResult::Length(put_request(dst, q, members as u64))
+    Ok(put_request(dst, q, size.members as u64))
 }
 
 // Writes a join request in a form: RANGE, OWED, ROOM, or the length written.
-pub fn write_request(dst: &mut [u8], q: JoinRequest, version: Version) -> WriteResult
+pub fn write_request(dst: &mut [u8], q: JoinRequest, version: Version) -> Result<usize, Refusal>
     ensures { Did (request_plan version q) dst.old result dst.new }
 {
     if !request_in_range(version, q) {
-        return WriteResult::Refused(Refusal::Range);
+        return Err(Refusal::Range);
     }
-    let network = q.network;
-    let report = network.disposition;
-    let owed = is_owing(version, q.role, report);
+    let owed = is_owing(version, q.role, q.network.disposition);
     emit_request(dst, q, owed)
 }

@@ -1,23 +1,25 @@
 // What a line asks of decode.
 use protocol_version::Version;
-use tool_text::decimal::Decimal;
 use tool_text::line::Line;
+use tool_text::line_error::LineError;
 use tool_text::word::Word;
+
+#[derive(Clone, Copy, PartialEq, Eq)]
+pub enum Object {
+    Request,
+    Configuration,
+}
 
 // An object, in which form, and whether its heads must be the shortest.
 #[derive(Clone, Copy)]
 pub struct Reading {
-    pub is_request: bool,
+    pub object: Object,
     pub version: Version,
     pub strict: bool,
 }
 
 #[derive(Clone, Copy)]
 pub enum Command {
-    // no command
-    Wrong,
-    // a number that is none, or is over what it may be
-    NoNumber,
     // one that takes HEX
     OfHex(Asking),
     // two configurations joined
@@ -42,136 +44,56 @@ pub enum Asking {
     Part,
 }
 
-// Whether a word names a reading, and which.
-#[derive(Clone, Copy)]
-enum Named {
-    Nothing,
-    As(Reading),
-}
+impl TryFrom<Word> for Reading {
+    type Error = LineError;
 
-// What the line asks for, HEX apart.
-pub fn command_of(line: Line) -> Command {
-    let word = line.head.command;
-    if word.is(b"head") {
-        return Command::OfHex(Asking::Head);
-    }
-    if word.is(b"rewrite") {
-        return rewrite_of(line.tail.word);
-    }
-    if word.is(b"merge") {
-        return Command::Merge;
-    }
-    let named = reading_of(word);
-    match named {
-        Named::Nothing => serial_of(line, word),
-        Named::As(reading) => Command::OfHex(Asking::Read(reading)),
-    }
-}
-
-fn rewrite_of(word: Word) -> Command {
-    let named = reading_of(word);
-    match named {
-        Named::Nothing => Command::Wrong,
-        Named::As(reading) => Command::OfHex(Asking::Rewrite(reading)),
+    // The reading that the word names, as request or strict-new-configuration.
+    fn try_from(word: Word) -> Result<Reading, LineError> {
+        let name = word.name();
+        let plain = name.strip_prefix(b"strict-");
+        let rest = plain.unwrap_or(name);
+        let published = rest.strip_prefix(b"new-");
+        let object = match published.unwrap_or(rest) {
+            b"request" => Object::Request,
+            b"configuration" => Object::Configuration,
+            _ => return Err(LineError::Command),
+        };
+        let version = match published {
+            Some(_) => Version::Published,
+            None => Version::Draft,
+        };
+        Ok(Reading {
+            object,
+            version,
+            strict: plain.is_some(),
+        })
     }
 }
 
-// A command of a payload that comes in parts; all but `part` have a fixed number of words.
-fn serial_of(line: Line, word: Word) -> Command {
-    let words = line.words();
-    if word.is(b"part") {
-        return Command::OfHex(Asking::Part);
-    }
-    if word.is(b"reset") {
-        return reset_of(words);
-    }
-    if word.is(b"end") {
-        return end_of(words, line.tail.word);
-    }
-    if word.is(b"store") {
-        let tail = line.tail;
-        let number = tail.number;
-        return store_of(words, number);
-    }
-    Command::Wrong
-}
+impl TryFrom<Line> for Command {
+    type Error = LineError;
 
-fn reset_of(words: usize) -> Command {
-    if words == 1 {
-        return Command::Reset;
-    }
-    Command::Wrong
-}
-
-fn end_of(words: usize, word: Word) -> Command {
-    if words != 2 {
-        return Command::Wrong;
-    }
-    let named = reading_of(word);
-    match named {
-        Named::Nothing => Command::Wrong,
-        Named::As(reading) => Command::End(reading),
+    // What the line asks for, HEX apart; all commands of a payload that comes in parts but `part` have a fixed number of words.
+    fn try_from(line: Line) -> Result<Command, LineError> {
+        let words = line.words();
+        let command = match line.head.command.name() {
+            b"head" => Command::OfHex(Asking::Head),
+            b"rewrite" => Command::OfHex(Asking::Rewrite(Reading::try_from(line.tail.word)?)),
+            b"merge" => Command::Merge,
+            b"part" => Command::OfHex(Asking::Part),
+            b"reset" if words == 1 => Command::Reset,
+            b"end" if words == 2 => Command::End(Reading::try_from(line.tail.word)?),
+            b"store" if words == 2 => Command::Store(lent_of(line)?),
+            _ => Command::OfHex(Asking::Read(Reading::try_from(line.head.command)?)),
+        };
+        Ok(command)
     }
 }
 
-fn store_of(words: usize, number: Decimal) -> Command {
-    if words != 2 {
-        return Command::Wrong;
+// How many bytes of the store the line lends.
+fn lent_of(line: Line) -> Result<usize, LineError> {
+    match line.tail.number.value() {
+        Some(lent) if lent <= 512 => Ok(lent as usize),
+        _ => Err(LineError::Number),
     }
-    let Decimal::Number(lent) = number else {
-        return Command::NoNumber;
-    };
-    if 512 < lent {
-        return Command::NoNumber;
-    }
-    Command::Store(lent as usize)
-}
-
-fn reading_of(word: Word) -> Named {
-    if word.is(b"request") {
-        return request_as(Version::Draft, false);
-    }
-    if word.is(b"configuration") {
-        return configuration_as(Version::Draft, false);
-    }
-    if word.is(b"strict-request") {
-        return request_as(Version::Draft, true);
-    }
-    if word.is(b"strict-configuration") {
-        return configuration_as(Version::Draft, true);
-    }
-    published_of(word)
-}
-
-// A reading of RFC 9031's form.
-fn published_of(word: Word) -> Named {
-    if word.is(b"new-request") {
-        return request_as(Version::Published, false);
-    }
-    if word.is(b"new-configuration") {
-        return configuration_as(Version::Published, false);
-    }
-    if word.is(b"strict-new-request") {
-        return request_as(Version::Published, true);
-    }
-    if word.is(b"strict-new-configuration") {
-        return configuration_as(Version::Published, true);
-    }
-    Named::Nothing
-}
-
-fn request_as(version: Version, strict: bool) -> Named {
-    Named::As(Reading {
-        is_request: true,
-        version,
-        strict,
-    })
-}
-
-fn configuration_as(version: Version, strict: bool) -> Named {
-    Named::As(Reading {
-        is_request: false,
-        version,
-        strict,
-    })
 }

@@ -1,62 +1,50 @@
 // The command `merge HEX + HEX`: two configurations joined and written.
-use byte_io::WriteResult;
 use cojp::Configuration;
 use protocol_version::Version;
-use refusal::Verdict;
+use refusal::Refusal;
 use tool_text::line::Tail;
-use tool_text::line_error::{LineError, put_line_error};
-use tool_text::output::{Buffer, Output};
-use tool_text::parting::Parts;
+use tool_text::line_error::LineError;
+use tool_text::output::{ByteString, Output};
+use tool_text::parting::Halves;
 
-pub fn answer(tail: Tail, payloads: &[u8], out: Output, buffer: &mut Buffer) -> Output {
-    match tail.parted().parts() {
-        Parts::One => put_line_error(out, LineError::Command, buffer),
-        Parts::Fault => put_line_error(out, LineError::Hex, buffer),
-        Parts::Two { first, whole } => {
-            let both = tool_text::first(payloads, whole);
-            answer_two(
-                tool_text::first(both, first),
-                tool_text::rest(both, first),
-                out,
-                buffer,
-            )
-        }
-    }
-}
-
-// Both payloads are read, the first one first.
-fn answer_two(first: &[u8], second: &[u8], out: Output, buffer: &mut Buffer) -> Output {
-    let one = cojp_read::read_configuration(first, Version::Draft, false);
-    let verdict = one.verdict;
-    if let Verdict::Refused(refusal) = verdict {
-        return tool_notation::put_refusal(out.text(b"first ", buffer), refusal, buffer);
-    }
-    let other = cojp_read::read_configuration(second, Version::Draft, false);
-    let verdict = other.verdict;
-    if let Verdict::Refused(refusal) = verdict {
-        return tool_notation::put_refusal(out.text(b"second ", buffer), refusal, buffer);
-    }
-    put_merged(out, one.configuration, other.configuration, buffer)
-}
-
-fn put_merged(
-    out: Output,
-    first: Configuration,
-    second: Configuration,
-    buffer: &mut Buffer,
-) -> Output {
-    let merged = cojp_merge::merge(first, second);
-    let verdict = merged.verdict;
-    if let Verdict::Refused(refusal) = verdict {
-        return tool_notation::put_refusal(out, refusal, buffer);
-    }
+pub fn answer(tail: Tail, payloads: &[u8], out: &mut Output) -> Result<(), LineError> {
+    let Halves { first, whole } = tail.parted().parts()?;
+    let both = tool_text::first(payloads, whole);
     let mut dst = [0u8; 256];
-    let written = cojp_write::write_configuration(&mut dst, merged.configuration, Version::Draft);
+    let written = merge(
+        tool_text::first(both, first),
+        tool_text::rest(both, first),
+        &mut dst,
+    );
     match written {
-        WriteResult::Refused(refusal) => tool_notation::put_refusal(out, refusal, buffer),
-        WriteResult::Length(len) => {
-            let out = out.text(b"merged ", buffer);
-            out.octets(tool_text::first(&dst, len), buffer)
+        Ok(len) => write!(out, "merged {}", ByteString(tool_text::first(&dst, len))),
+        Err((which, refusal)) => {
+            write!(out, "{which}");
+            tool_notation::put_refusal(out, refusal);
         }
     }
+    Ok(())
+}
+
+// Both payloads are read, the first one first. With a refusal comes which of them it is of.
+fn merge(first: &[u8], second: &[u8], dst: &mut [u8]) -> Result<usize, (&'static str, Refusal)> {
+    let one = read(first).map_err(|refusal| ("first ", refusal))?;
+    let other = read(second).map_err(|refusal| ("second ", refusal))?;
+    write_merged(one, other, dst).map_err(|refusal| ("", refusal))
+}
+
+fn read(payload: &[u8]) -> Result<Configuration, Refusal> {
+    let read = cojp_read::read_configuration(payload, Version::Draft, false);
+    read.verdict?;
+    Ok(read.configuration)
+}
+
+fn write_merged(
+    one: Configuration,
+    other: Configuration,
+    dst: &mut [u8],
+) -> Result<usize, Refusal> {
+    let merged = cojp_merge::merge(one, other);
+    merged.verdict?;
+    cojp_write::write_configuration(dst, merged.configuration, Version::Draft)
 }

@@ -1,13 +1,12 @@
 -- What every call from C has in common: arguments of fixed length, and what stays where a verdict refuses.
 -- Assumes nothing.
-use Rattle.std.specs.Prelude.{ℕ, ◌≡◌, refl, Bool, true, false, ◌&&◌, List, eqb, length, take, drop, replicate}
+use Rattle.std.specs.Prelude.{ℕ, ◌≡◌, refl, Bool, true, false, ◌&&◌, List, eqb, length, take, drop, replicate, Ok, Err}
 use Rattle.std.proofs.Common.{ap, ◌∙◌, arith, eq-eqb, ne_eqb, eqb-true, take_all}
 use Rattle.lemmas.specs.logic.Tests.{both_left}
 use Rattle.refusal.specs.Refusal.{number_of}
 use Rattle.refusal.specs.Verdict.{verdict_number}
 use Rattle.refusal.specs.declared.Refusal.{Refusal}
-use Rattle.refusal.specs.declared.Verdict.{Verdict}
-use Rattle.refusal.specs.declared.Verdict.TheVariants.{Accepted, Refused}
+use Rattle.refusal.specs.Verdict.{Verdict}
 use Rattle.image.specs.Effects.{on_accept, result_bytes, zeroed, hand_verdict, ResultSpec}
 use Rattle.image.specs.Part.{Part, is_image}
 
@@ -32,29 +31,29 @@ module _ (a : List ℕ) (n : ℕ) (b : Bool) where
 
 -- ---- what a verdict leaves
 module _ (v : Verdict) (before after : List ℕ) {x : List ℕ} where
-  pub accepted : v ≡ Accepted → x ≡ after → (0 ≡ verdict_number v) × (x ≡ on_accept v before after)
+  pub accepted : v ≡ Ok tt → x ≡ after → (0 ≡ verdict_number v) × (x ≡ on_accept v before after)
   accepted e h = rw e (refl, h)
 
-  pub refused : (k : Refusal) {r : ℕ} → v ≡ Refused k → r ≡ number_of k → x ≡ before → (r ≡ verdict_number v) × (x ≡ on_accept v before after)
+  pub refused : (k : Refusal) {r : ℕ} → v ≡ Err k → r ≡ number_of k → x ≡ before → (r ≡ verdict_number v) × (x ≡ on_accept v before after)
   refused k e g h = rw e (g, h)
 
 -- the same in either case
 pub same-either : {A : Type 0} (v : Verdict) (x : A) → on_accept v x x ≡ x
-same-either Accepted x = refl
-same-either (Refused k) x = refl
+same-either (Ok tt) x = refl
+same-either (Err k) x = refl
 
 -- a call whose number is not 0 was refused, and leaves what stood before
 pub kept : {A : Type 0} (v : Verdict) (before after : A) {r : ℕ} {x : A} → r ≡ verdict_number v → (r ≡ 0 → ⊥) → x ≡ on_accept v before after
     → x ≡ before
-kept Accepted before after e h f = absurd (h e)
-kept (Refused k) before after e h f = f
+kept (Ok tt) before after e h f = absurd (h e)
+kept (Err k) before after e h f = f
 
 -- its result is all zero
 pub emptied : (n : ℕ) (v : Verdict) (image s : List ℕ) {r : ℕ} {x : List ℕ} → r ≡ verdict_number v → (r ≡ 0 → ⊥)
     → x ≡ result_bytes n v image s
     → x ≡ zeroed n s
-emptied n Accepted image s e h f = absurd (h e)
-emptied n (Refused k) image s e h f = f
+emptied n (Ok tt) image s e h f = absurd (h e)
+emptied n (Err k) image s e h f = f
 
 -- ---- a call that hands back a struct
 module _ (n : ℕ) (right : Bool) (w : Verdict) (image s : List ℕ) where

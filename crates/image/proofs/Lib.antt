@@ -1,2 +1,2 @@
-mod Leaves
+mod Bytes
 pub mod Lent

@@ -1,19 +1,18 @@
 -- What a call from C leaves in the bytes and numbers that it was lent, by its verdict. State and destinations: refused, as they were.
 -- A result is the call's own answer: refused, all zero, so that nothing of an earlier call is left in it.
-use Rattle.std.specs.Prelude.{ℕ, Bool, cond, ◌&&◌, List, ◌≡◌, eqb, length, replicate}
+use Rattle.std.specs.Prelude.{ℕ, Bool, cond, ◌&&◌, List, ◌≡◌, eqb, length, replicate, Ok, Err}
 use Rattle.refusal.specs.Verdict.{verdict_number}
 use Rattle.refusal.specs.declared.Refusal.TheVariants.{Range}
-use Rattle.refusal.specs.declared.Verdict.{Verdict}
-use Rattle.refusal.specs.declared.Verdict.TheVariants.{Accepted, Refused}
+use Rattle.refusal.specs.Verdict.{Verdict}
 
 -- the one where the call was refused, the other where it was accepted
 abbrev pub on_accept : {A : Type 0} → Verdict → A → A → A
-on_accept Accepted before after = after
-on_accept (Refused k) before after = before
+on_accept (Ok tt) before after = after
+on_accept (Err k) before after = before
 
 -- RANGE comes first where what was lent is not of its size, or no image
 abbrev pub checked_first : Bool → Verdict → Verdict
-checked_first right v = cond right v (Refused Range)
+checked_first right v = cond right v (Err Range)
 
 -- a result struct of n bytes: where s is not so long, it is not touched
 abbrev pub result_bytes : ℕ → Verdict → List ℕ → List ℕ → List ℕ

@@ -1,7 +1,8 @@
 -- Numbers in bytes: division by 256 gives the bytes, and the bytes give the number again.
 -- Assumes nothing.
 use Rattle.std.specs.Prelude.{ℕ, zero, suc, ◌+◌, ◌*◌, ◌/◌, ◌%◌, ◌^◌, ◌<◌, ◌≤◌, ◌≡◌, refl, List, [], ◌∷◌, length, take, get_or}
-use Rattle.std.proofs.Common.{ap, sym, ◌∙◌, arith, pow-suc, take-suc}
+use Rattle.std.specs.Int.{from_be_bytes}
+use Rattle.std.proofs.Common.{w32, w64, ap, sym, ◌∙◌, arith, pow-suc, take-suc}
 use Rattle.byte_io.specs.BigEndian.{bytes_of, digits, big_endian}
 use Rattle.byte_io.specs.BigEndianLemmas.{digits_append, digits-bytes_of}
 
@@ -31,3 +32,26 @@ put_back s (suc k) b h =
     let e : (n * 256 + x) / 256 ≡ n = omega arith in
     let f : (n * 256 + x) % 256 ≡ x = omega arith in
     rw (next-byte s k (omega arith), e, f, put_back s k b (omega arith)) (sym (take-suc s k 0 (omega arith)))
+
+-- ---- std's bytes, the most significant first, hold the same number
+pub four_bytes : (s : List ℕ) → length s ≡ 4 → from_be_bytes w32 s ≡ big_endian s
+unfolding digits
+four_bytes [] h = absurd (omega arith)
+four_bytes (a ∷ []) h = absurd (omega arith)
+four_bytes (a ∷ b ∷ []) h = absurd (omega arith)
+four_bytes (a ∷ b ∷ c ∷ []) h = absurd (omega arith)
+four_bytes (a ∷ b ∷ c ∷ d ∷ []) h = omega arith
+four_bytes (a ∷ b ∷ c ∷ d ∷ e ∷ s) h = absurd (omega arith)
+
+pub eight_bytes : (s : List ℕ) → length s ≡ 8 → from_be_bytes w64 s ≡ big_endian s
+unfolding digits
+eight_bytes [] k = absurd (omega arith)
+eight_bytes (a ∷ []) k = absurd (omega arith)
+eight_bytes (a ∷ b ∷ []) k = absurd (omega arith)
+eight_bytes (a ∷ b ∷ c ∷ []) k = absurd (omega arith)
+eight_bytes (a ∷ b ∷ c ∷ d ∷ []) k = absurd (omega arith)
+eight_bytes (a ∷ b ∷ c ∷ d ∷ e ∷ []) k = absurd (omega arith)
+eight_bytes (a ∷ b ∷ c ∷ d ∷ e ∷ f ∷ []) k = absurd (omega arith)
+eight_bytes (a ∷ b ∷ c ∷ d ∷ e ∷ f ∷ g ∷ []) k = absurd (omega arith)
+eight_bytes (a ∷ b ∷ c ∷ d ∷ e ∷ f ∷ g ∷ h ∷ []) k = omega arith
+eight_bytes (a ∷ b ∷ c ∷ d ∷ e ∷ f ∷ g ∷ h ∷ i ∷ s) k = absurd (omega arith)

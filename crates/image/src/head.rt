@@ -19,11 +19,5 @@ pub fn is_headed(s: &[u8], size: usize, kind: u8) -> bool
     requires { 2 ≤ size }
     ensures { result ≡ (eqb (length s.now) size && is_headed kind s.now) }
 {
-    if s.len() != size {
-        return false;
-    }
-    if s[0] != kind {
-        return false;
-    }
-    s[1] == LAYOUT
+    s.len() == size && s[0] == kind && s[1] == LAYOUT
 }

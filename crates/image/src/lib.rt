@@ -6,12 +6,23 @@ mod head;
 mod number;
 mod octets;
 
+ghost use Rattle.std.specs.Prelude.{◌≡◌};
+ghost use Rattle.refusal.specs.Verdict.{verdict_number};
+
 pub use head::{is_headed, put_head};
 pub use number::{number_at, put_number};
-pub use octets::{
-    array_2_at, array_8_at, array_13_at, array_16_at, array_253_at, clear, put_array_2,
-    put_array_8, put_array_16, put_array_253, put_byte,
-};
+pub use octets::{array_at, clear, put_array, put_byte};
+use refusal::Refusal;
 
 // The number of RANGE, which every call answers first: to a struct of another length, and to bytes that are no image.
-pub const RANGE: u32 = 13;
+pub const RANGE: u32 = Refusal::Range as u32;
+
+// The number that C is answered.
+pub fn number_of(verdict: Result<(), Refusal>) -> u32
+    ensures { result ≡ verdict_number verdict }
+{
+    match verdict {
+        Ok(()) => 0,
+        Err(why) => why.number() as u32,
+    }
+}

@@ -8,13 +8,9 @@ pub fn put_number(dst: &mut [u8], width: usize, n: u64)
     requires { width ≤ length dst.old }
     ensures { Wrote (bytes_of width n) dst.old width dst.new }
 {
-    let mut left = n;
-    let mut i = width;
-    while 0 < i {
-        i -= 1;
-        dst[i] = (left % 256) as u8;
-        left = left / 256;
-    }
+    let zeros = width.saturating_sub(8);
+    dst[..zeros].fill(0);
+    dst[zeros..width].copy_from_slice(&n.to_be_bytes()[8 + zeros - width..]);
 }
 
 // The number that so many bytes from a place on hold.
@@ -22,11 +18,7 @@ pub fn number_at(s: &[u8], at: usize, width: usize) -> u64
     requires { (at + width ≤ length s.now) × (width ≤ 8) }
     ensures { result ≡ big_endian (take width (drop at s.now)) }
 {
-    let mut value: u64 = 0;
-    let mut i: usize = 0;
-    while i < width {
-        value = value * 256 + s[at + i] as u64;
-        i += 1;
-    }
-    value
+    let mut bytes = [0; 8];
+    bytes[8 - width..].copy_from_slice(&s[at..at + width]);
+    u64::from_be_bytes(bytes)
 }

@@ -1,5 +1,7 @@
 -- The body's bytes: its text has 19 and it 31, its fields read back from it, and it stands where the code wrote its parts.
 -- Assumes nothing.
+use Rattle.std.specs.Prelude.{Result}
+use Rattle.refusal.specs.declared.Refusal.{Refusal}
 use mathlib.Core.Path.{◌≡◌, refl, sym, ◌∙◌, ap, ap₂, subst}
 use mathlib.Core.Bool.{cond}
 use mathlib.Core.List.{List, [], ◌∷◌, ◌++◌, append-nil, append_assoc}
@@ -15,7 +17,6 @@ use lib.Seq.{take_all, take_at, drop_at, drop-drop}
 use Rattle.lemmas.specs.lists.Digits.{digits}
 use Rattle.lemmas.specs.lists.Table.{table}
 use Rattle.lemmas.specs.lists.TableLemmas.{table-self}
-use Rattle.aes_ccm.specs.declared.WriteResult.{WriteResult}
 use Rattle.aes_ccm.specs.Ccm.{sealed, two}
 use Rattle.aes_ccm.specs.Laws.{CcmLaws}
 use Rattle.aes_ccm.specs.Plan.{Plan, emit, Did, after, seal_plan}
@@ -57,7 +58,7 @@ kept token i = by_side (dec_lt i (length token))
         let past : length token ≤ i = omega arith in
         rw (le-ltb i (length token) past) (sym (get_or-eq_default token 0 past))
 
-pub eight-eq : {a b c d e f g h a' b' c' d' e' f' g' h' : ℕ} → a ≡ a' → b ≡ b' → c ≡ c' → d ≡ d' → e ≡ e' → f ≡ f' → g ≡ g' → h ≡ h'
+eight-eq : {a b c d e f g h a' b' c' d' e' f' g' h' : ℕ} → a ≡ a' → b ≡ b' → c ≡ c' → d ≡ d' → e ≡ e' → f ≡ f' → g ≡ g' → h ≡ h'
     → a ∷ b ∷ c ∷ d ∷ e ∷ f ∷ g ∷ h ∷ [] ≡ a' ∷ b' ∷ c' ∷ d' ∷ e' ∷ f' ∷ g' ∷ h' ∷ []
 eight-eq p q r s t u v w = cc
 
@@ -89,25 +90,23 @@ pub token-length : (interface : List ℕ) (port : ℕ) (token : List ℕ) → le
 unfolding pledge_in
 token-length interface port token e = ap (λ w. w.len) (reads-back interface port token e)
 
--- the text as the code lists it
-pub text-bytes : (interface : List ℕ) (port : ℕ) (token : List ℕ) (a b c d e f g h : ℕ) → length interface ≡ 8
-    → a ≡ get_or token 0 0 → b ≡ get_or token 1 0 → c ≡ get_or token 2 0 → d ≡ get_or token 3 0
-    → e ≡ get_or token 4 0 → f ≡ get_or token 5 0 → g ≡ get_or token 6 0 → h ≡ get_or token 7 0
-    → get_or interface 0 0 ∷ get_or interface 1 0 ∷ get_or interface 2 0 ∷ get_or interface 3 0 ∷ get_or interface 4 0
-    ∷ get_or interface 5 0 ∷ get_or interface 6 0 ∷ get_or interface 7 0 ∷ (port / 256) ∷ (port % 256) ∷ length token
-    ∷ a ∷ b ∷ c ∷ d ∷ e ∷ f ∷ g ∷ h ∷ []
-    ≡ pledge_text interface port token
-unfolding pledge_text table
-text-bytes interface port token a b c d e f g h l pa pb pc pd pe pf pg ph =
-    ap (λ (x : List ℕ). get_or interface 0 0 ∷ get_or interface 1 0 ∷ get_or interface 2 0 ∷ get_or interface 3 0 ∷ get_or interface 4 0
-    ∷ get_or interface 5 0 ∷ get_or interface 6 0 ∷ get_or interface 7 0 ∷ (port / 256) ∷ (port % 256) ∷ length token ∷ x)
-    (eight-eq pa pb pc pd pe pf pg ph)
-    ∙ ap (λ (x : List ℕ). x ++ two port ++ (length token ∷ eight token))
-    (table-self interface 0 8 (λ k. get_or interface k 0) l (λ k k<8. refl))
+-- the text's parts, one after the other
+pub text-parts : (interface : List ℕ) (port : ℕ) (token : List ℕ)
+    → interface ++ (port / 256) ∷ (port % 256) ∷ length token ∷ eight token ≡ pledge_text interface port token
+unfolding pledge_text
+text-parts interface port token = sym (append_assoc interface (two port) (length token ∷ eight token))
+
+-- four bytes of a number
+pub four-bytes : (n : ℕ) → n < 4294967296 → n / 16777216 % 256 ∷ n / 65536 % 256 ∷ n / 256 % 256 ∷ n % 256 ∷ [] ≡ four n
+four-bytes n h = let e : n / 16777216 % 256 ≡ n / 16777216 = omega arith in rw e
+
+-- two bytes of a port
+pub two-bytes : (n : ℕ) → n < 65536 → n / 256 % 256 ∷ n % 256 ∷ [] ≡ two n
+two-bytes n h = let e : n / 256 % 256 ≡ n / 256 = omega arith in rw e
 
 -- ---- the body as it is written: the number first, and then the part after it is lent to sealing
 -- what sealing left in the part after the number
-sealed-part : CcmLaws → (key number text rest p : List ℕ) (r : WriteResult) → length text ≡ 19 → 27 ≤ length rest
+sealed-part : CcmLaws → (key number text rest p : List ℕ) (r : Result ℕ Refusal) → length text ≡ 19 → 27 ≤ length rest
     → Did (seal_plan key (nonce_with number) [] text (length rest)) rest r p → p ≡ sealed key (nonce_with number) [] text ++ drop 27 rest
 sealed-part laws key number text rest p r l h did =
     let long : length (sealed key (nonce_with number) [] text) ≡ 27 = laws.length-sealed key (nonce_with number) [] text ∙ rw l in
@@ -115,7 +114,7 @@ sealed-part laws key number text rest p r l h did =
     = laws.seals key (nonce_with number) [] text (length rest) (omega arith) (omega arith) (omega arith) in
     did.holds ∙ ap (λ (x : Plan). after x rest) plan ∙ ap (λ (k : ℕ). sealed key (nonce_with number) [] text ++ drop k rest) long
 
-pub written-body : CcmLaws → (key text p : List ℕ) (r : WriteResult) (number nonce d d1 : List ℕ) → length text ≡ 19 → length number ≡ 4
+pub written-body : CcmLaws → (key text p : List ℕ) (r : Result ℕ Refusal) (number nonce d d1 : List ℕ) → length text ≡ 19 → length number ≡ 4
     → nonce ≡ nonce_with number → 31 ≤ length d → d1 ≡ number ++ drop 4 d
     → (let part = take (length d1 - 4) (drop 4 d1) in
     Did (seal_plan key nonce [] text (length part)) part r p → BodyWritten key number text d (put_mid 4 (length d1 - 4) d1 p))

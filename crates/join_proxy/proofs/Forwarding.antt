@@ -1,5 +1,6 @@
 -- What a proxy answers after any list of calls: what the calls tell is what it keeps, so the definitions' tests are the laws' words.
 -- Assumes nothing.
+use Rattle.std.specs.Prelude.{Some}
 use mathlib.Core.Path.{◌≡◌, refl, sym, ◌∙◌, ap}
 use mathlib.Core.Bool.{Bool, true, false}
 use mathlib.Core.List.{List}
@@ -13,7 +14,6 @@ use Rattle.aes_ccm.specs.Laws.{CcmLaws}
 use Rattle.aes_ccm.specs.Plan.{Plan, refuse, emit, answer, number_in}
 use Rattle.join_proxy.specs.declared.judging.JudgeResult.{JudgeResult}
 use Rattle.join_proxy.specs.declared.judging.Pledge.{Pledge}
-use Rattle.join_proxy.specs.declared.proxy.Issued.TheVariants.{Count}
 use Rattle.join_proxy.specs.Body.{four, number_of, pledge_text, body_of}
 use Rattle.join_proxy.specs.History.{ProxyCall, History, sent_at, after}
 use Rattle.join_proxy.specs.Issuing.{issue_plan}
@@ -35,14 +35,14 @@ module _ (h : History) (t : Told h) (interface : List ℕ) (port : ℕ) (token :
   unfolding issue_plan
   is-spent l e = by-standing t.stands
     where
-      by-standing : IssuedCount h.proxy.issued (length h.sent) → issue_plan h.proxy interface port token room ≡ refuse Spent
+      by-standing : IssuedCount h.proxy.next (length h.sent) → issue_plan h.proxy interface port token room ≡ refuse Spent
       by-standing (going q k) = absurd (omega arith)
       by-standing (spent q k) = rw (le-ltb 8 (length token) l, q)
 
-  next : length token ≤ 8 → length h.sent < 4294967296 → h.proxy.issued ≡ Count (length h.sent)
+  next : length token ≤ 8 → length h.sent < 4294967296 → h.proxy.next ≡ Some (length h.sent)
   next l k = by-standing t.stands
     where
-      by-standing : IssuedCount h.proxy.issued (length h.sent) → h.proxy.issued ≡ Count (length h.sent)
+      by-standing : IssuedCount h.proxy.next (length h.sent) → h.proxy.next ≡ Some (length h.sent)
       by-standing (going q k) = q
       by-standing (spent q e) = absurd (omega arith)
 
@@ -55,7 +55,7 @@ module _ (h : History) (t : Told h) (interface : List ℕ) (port : ℕ) (token :
   unfolding issue_plan
   is-done l k r = rw (le-ltb 8 (length token) l, next l k, le-ltb room 31 r, t.key-is)
 
-  at_most : IssuedCount h.proxy.issued (length h.sent) → length h.sent ≤ 4294967296
+  at_most : IssuedCount h.proxy.next (length h.sent) → length h.sent ≤ 4294967296
   at_most (going q k) = omega arith
   at_most (spent q e) = omega arith
 
@@ -75,15 +75,15 @@ issues-in-order key calls = issues-by (after key calls) (told key calls)
 
 -- ---- what was issued
 -- the proxy's count is how many were issued
-counts : (key : List ℕ) (calls : List ProxyCall) → (let h = after key calls in count_of h.proxy.issued ≡ length h.sent)
-counts key calls = let h = after key calls in standing-count h.proxy.issued (length h.sent) (told key calls).stands
+counts : (key : List ℕ) (calls : List ProxyCall) → (let h = after key calls in count_of h.proxy.next ≡ length h.sent)
+counts key calls = let h = after key calls in standing-count h.proxy.next (length h.sent) (told key calls).stands
 
 module _ (laws : CcmLaws) (key : List ℕ) (calls : List ProxyCall) (i : ℕ) where
   -- a body of the proxy's own is judged by its place
   own : (let h = after key calls in
       let s = sent_at h.sent i in
       i < length h.sent → length s.interface ≡ 8
-      → judge_body h.proxy s.body ≡ judge_text h.proxy.issued i (pledge_text s.interface s.port s.token))
+      → judge_body h.proxy s.body ≡ judge_text h.proxy.next i (pledge_text s.interface s.port s.token))
   own l e =
       let h = after key calls in
       let t = told key calls in
@@ -110,14 +110,14 @@ module _ (laws : CcmLaws) (key : List ℕ) (calls : List ProxyCall) (i : ℕ) wh
       let text = pledge_text s.interface s.port s.token in
       let count = counts key calls in
       own l e
-      ∙ text-forwarded h.proxy.issued i text (fits l e) (fresh-true h.proxy.issued i (omega (arith, count)) (omega (arith, count)))
+      ∙ text-forwarded h.proxy.next i text (fits l e) (fresh-true h.proxy.next i (omega (arith, count)) (omega (arith, count)))
       ∙ ap forward_to (reads-back s.interface s.port s.token e)
 
   pub issued-ages : (let h = after key calls in
       let s = sent_at h.sent i in
       i < length h.sent → 64 ≤ length h.sent - 1 - i → length s.interface ≡ 8 → judge_body h.proxy s.body ≡ refused_with Stale)
   issued-ages l many e =
-      let issued = (after key calls).proxy.issued in
+      let issued = (after key calls).proxy.next in
       let s = sent_at (after key calls).sent i in
       let count = counts key calls in
       let old : is_fresh issued i ≡ false
@@ -127,7 +127,7 @@ module _ (laws : CcmLaws) (key : List ℕ) (calls : List ProxyCall) (i : ℕ) wh
 -- ---- exactly when a body is forwarded
 module _ (laws : CcmLaws) (key : List ℕ) (calls : List ProxyCall) (body : List ℕ) where
   -- a fresh number is that of its place
-  recent : (let issued = (after key calls).proxy.issued in
+  recent : (let issued = (after key calls).proxy.next in
       let n = number_of (take 4 body) in n < count_of issued → count_of issued - 1 - n < 64 → Recent (after key calls) body n)
   recent l few =
       let h = after key calls in
@@ -169,8 +169,8 @@ module _ (laws : CcmLaws) (key : List ℕ) (calls : List ProxyCall) (body : List
       let was = f.recent.was-issued in
       let few = f.recent.few-after in
       by-text laws h.proxy body f.text f.long (to-proxy f.text f.seal-opens)
-      ∙ text-forwarded h.proxy.issued n f.text f.token-fits
-      (fresh-true h.proxy.issued n (omega (arith, count, at, was, few)) (omega (arith, count, at, was, few)))
+      ∙ text-forwarded h.proxy.next n f.text f.token-fits
+      (fresh-true h.proxy.next n (omega (arith, count, at, was, few)) (omega (arith, count, at, was, few)))
       ∙ ap forward_to f.names
 
   pub judges-in-order : JudgesInOrder (after key calls) body
@@ -181,16 +181,16 @@ module _ (laws : CcmLaws) (key : List ℕ) (calls : List ProxyCall) (body : List
       record {
         type-first = λ l. ap number (not-31 p body l);
         seal-next = λ l never. ap number (never-opens laws p body l (λ t e. never t (from-proxy t e)));
-        range-next = λ t l e over. ap number (by-text laws p body t l (to-proxy t e) ∙ text-range p.issued n t over);
+        range-next = λ t l e over. ap number (by-text laws p body t l (to-proxy t e) ∙ text-range p.next n t over);
         stale-last =
             λ t l e fits old. ap number
-            (by-text laws p body t l (to-proxy t e) ∙ text-stale p.issued n t fits (not-fresh old (is_fresh p.issued n) refl));
+            (by-text laws p body t l (to-proxy t e) ∙ text-stale p.next n t fits (not-fresh old (is_fresh p.next n) refl));
       }
     where
-      not-fresh : ((place : ℕ) → Recent (after key calls) body place → ⊥) → (let issued = (after key calls).proxy.issued in
+      not-fresh : ((place : ℕ) → Recent (after key calls) body place → ⊥) → (let issued = (after key calls).proxy.next in
           let n = number_of (take 4 body) in (b : Bool) → is_fresh issued n ≡ b → is_fresh issued n ≡ false)
       not-fresh old true e =
           let n = number_of (take 4 body) in
-          let both = fresh-both (after key calls).proxy.issued n e in
+          let both = fresh-both (after key calls).proxy.next n e in
           absurd (old n (recent both.0 both.1))
       not-fresh old false e = e

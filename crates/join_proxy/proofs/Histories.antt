@@ -2,6 +2,7 @@
 -- 2 and so on under that key, and the proxy counts them:
 -- each call keeps that.
 -- Assumes nothing.
+use Rattle.std.specs.Prelude.{None, Some}
 use mathlib.Core.Path.{◌≡◌, refl, sym, ◌∙◌, ap, ap₂, subst}
 use mathlib.Core.Bool.{Bool, true, false, cond}
 use mathlib.Core.List.{List, [], ◌∷◌, ◌++◌}
@@ -16,8 +17,7 @@ use lib.Seq.{get_or_at}
 use Rattle.lemmas.specs.lists.Same.{same}
 use Rattle.lemmas.specs.lists.SameLemmas.{same-equal, same_refl}
 use Rattle.aes_ccm.specs.Plan.{Plan, refuse, emit, answer, number_in}
-use Rattle.join_proxy.specs.declared.proxy.Issued.{Issued}
-use Rattle.join_proxy.specs.declared.proxy.Issued.TheVariants.{Count, All}
+use Rattle.join_proxy.specs.Issued.{Issued}
 use Rattle.join_proxy.specs.declared.proxy.Proxy.{Proxy}
 use Rattle.join_proxy.specs.Body.{four, number_of, pledge_text, body_of}
 use Rattle.join_proxy.specs.History.{ProxyCall, setting, issuing, judging, Sent, History, sent_at, with_sent}
@@ -30,8 +30,8 @@ use Rattle.join_proxy.proofs.Plans.{emitted}
 
 -- what the proxy keeps after n issues
 pub data IssuedCount (issued : Issued) (n : ℕ) : Type 0 where
-  going : issued ≡ Count n → n < 4294967296 → IssuedCount issued n
-  spent : issued ≡ All → n ≡ 4294967296 → IssuedCount issued n
+  going : issued ≡ Some n → n < 4294967296 → IssuedCount issued n
+  spent : issued ≡ None → n ≡ 4294967296 → IssuedCount issued n
 
 pub standing-count : (issued : Issued) (n : ℕ) → IssuedCount issued n → count_of issued ≡ n
 standing-count issued n (going e h) = ap count_of e
@@ -40,7 +40,7 @@ standing-count issued n (spent e h) = ap count_of e ∙ sym h
 raised-stands : (n : ℕ) → n < 4294967296 → IssuedCount (raised n) (n + 1)
 raised-stands n h = by-test (eqb n 4294967295) refl
   where
-    by-test : (b : Bool) → eqb n 4294967295 ≡ b → IssuedCount (cond b All (Count (n + 1))) (n + 1)
+    by-test : (b : Bool) → eqb n 4294967295 ≡ b → IssuedCount (cond b None (Some (n + 1))) (n + 1)
     by-test true e = let q : n ≡ 4294967295 = eqb-true n 4294967295 e in spent refl (omega arith)
     by-test false e = let q : n ≡ 4294967295 → ⊥ = eqb-false n 4294967295 e in going refl (omega arith)
 
@@ -52,7 +52,7 @@ pub record Right (key : List ℕ) (s : Sent) (n : ℕ) : Type 0 where
 -- what the calls tell is what the proxy keeps
 pub record Told (h : History) : Type 0 where
   pub key-is : h.proxy.key ≡ h.key
-  pub stands : IssuedCount h.proxy.issued (length h.sent)
+  pub stands : IssuedCount h.proxy.next (length h.sent)
   pub each : (i : ℕ) → i < length h.sent → Right h.key (sent_at h.sent i) i
 
 -- ---- setting a key
@@ -86,9 +86,9 @@ grown key sent s each right i l =
     (eq-or-lt_of_le m)
 
 -- the number that was used is how many there were
-number-used : (issued : Issued) (m n : ℕ) → IssuedCount issued m → issued ≡ Count n → (m ≡ n) × (m < 4294967296)
+number-used : (issued : Issued) (m n : ℕ) → IssuedCount issued m → issued ≡ Some n → (m ≡ n) × (m < 4294967296)
 number-used issued m n (going e h) q = (ap count_of (sym e ∙ q), h)
-number-used issued m n (spent e h) q = absurd (let r : All ≡ Count n = sym e ∙ q in let z : ◌≡◌ {A = ℕ} 0 1 = cc in omega arith)
+number-used issued m n (spent e h) q = absurd (let r : None ≡ Some n = sym e ∙ q in let z : ◌≡◌ {A = ℕ} 0 1 = cc in omega arith)
 
 issue-told : (h : History) (interface : List ℕ) (port : ℕ) (token : List ℕ) (room : ℕ) (plan : Plan)
     → issue_plan h.proxy interface port token room ≡ plan → Told h
@@ -98,8 +98,8 @@ issue-told h interface port token room (emit body) q t =
     let was = emitted h.proxy interface port token room body q in
     let m = length h.sent in
     let s : Sent = record { interface = interface; port = port; token = token; body = body } in
-    let used = number-used h.proxy.issued m was.number t.stands was.was in
-    let now-issued : raised_from h.proxy.issued ≡ raised m = ap raised_from was.was ∙ ap raised (sym used.0) in
+    let used = number-used h.proxy.next m was.number t.stands was.was in
+    let now-issued : raised_from h.proxy.next ≡ raised m = ap raised_from was.was ∙ ap raised (sym used.0) in
     let right : Right h.key s m
     = record {
       token-fits = was.token-fits;
@@ -108,7 +108,7 @@ issue-told h interface port token room (emit body) q t =
     record {
       key-is = t.key-is;
       stands =
-          subst (λ (n : ℕ). IssuedCount (raised_from h.proxy.issued) n) (sym (length-append h.sent (s ∷ [])))
+          subst (λ (n : ℕ). IssuedCount (raised_from h.proxy.next) n) (sym (length-append h.sent (s ∷ [])))
           (subst (λ (x : Issued). IssuedCount x (m + 1)) (sym now-issued) (raised-stands m used.1));
       each = grown h.key h.sent s t.each right;
     }

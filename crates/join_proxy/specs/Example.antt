@@ -1,8 +1,7 @@
 -- A day of a proxy, played: the laws are not about nothing.
-use Rattle.std.specs.Prelude.{List, [], ◌∷◌, ◌++◌, ◌≡◌, ℕ, take, replicate}
+use Rattle.std.specs.Prelude.{List, [], ◌∷◌, ◌++◌, ◌≡◌, ℕ, take, replicate, Some}
 use Rattle.refusal.specs.declared.Refusal.TheVariants.{Stale}
 use Rattle.join_proxy.specs.declared.judging.JudgeResult.{JudgeResult}
-use Rattle.join_proxy.specs.declared.proxy.Issued.TheVariants.{Count}
 use Rattle.join_proxy.specs.Body.{number_of}
 use Rattle.join_proxy.specs.Judging.{judge_body, forward_to, refused_with}
 use Rattle.join_proxy.specs.History.{ProxyCall, setting, issuing, judging, Sent, History, sent_at, called, answered, after}
@@ -44,7 +43,7 @@ judged n i =
 
 -- one number is left
 abbrev pub late : History
-late = record { proxy = record { key = key 1; issued = Count 4294967295 }; key = key 1; sent = [] }
+late = record { proxy = record { key = key 1; next = Some 4294967295 }; key = key 1; sent = [] }
 
 pub record ProxyExample : Type 0 where
   pub said : answers (first_run ++ second_run) (after (key 1) []) ≡ 13 ∷ 12 ∷ 0 ∷ 13 ∷ 5 ∷ 0 ∷ 0 ∷ 0 ∷ []

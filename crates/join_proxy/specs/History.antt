@@ -1,9 +1,8 @@
 -- A list of calls on a proxy, and what is told of it by the calls and their answers alone:
 -- the key that was set last, and what was issued since.
-use Rattle.std.specs.Prelude.{List, [], ◌∷◌, ◌++◌, ℕ, get_or}
+use Rattle.std.specs.Prelude.{List, [], ◌∷◌, ◌++◌, ℕ, get_or, Ok, Err}
 use Rattle.refusal.specs.Verdict.{verdict_number}
-use Rattle.refusal.specs.declared.Verdict.{Verdict}
-use Rattle.refusal.specs.declared.Verdict.TheVariants.{Accepted, Refused}
+use Rattle.refusal.specs.Verdict.{Verdict}
 use Rattle.aes_ccm.specs.Plan.{Plan, refuse, emit, answer, number_in}
 use Rattle.join_proxy.specs.declared.proxy.Proxy.{Proxy}
 use Rattle.join_proxy.specs.Issuing.{issue_plan, after_issue}
@@ -38,8 +37,8 @@ with_sent (refuse k) interface port token sent = sent
 with_sent (emit body) interface port token sent = sent ++ (record { interface = interface; port = port; token = token; body = body } ∷ [])
 
 abbrev pub settled : Verdict → Proxy → List ℕ → History → History
-settled Accepted p key h = record { proxy = p; key = key; sent = [] }
-settled (Refused k) p key h = record { proxy = p; key = h.key; sent = h.sent }
+settled (Ok tt) p key h = record { proxy = p; key = key; sent = [] }
+settled (Err k) p key h = record { proxy = p; key = h.key; sent = h.sent }
 
 abbrev pub called : ProxyCall → History → History
 called (setting key) h = settled (set_key h.proxy key).verdict (set_key h.proxy key).proxy key h

@@ -1,13 +1,12 @@
 -- Judging a body by the present key alone: TYPE, SEAL, RANGE, STALE, or forwarded to the pledge and token that it names.
-use Rattle.std.specs.Prelude.{Bool, cond, ◌&&◌, List, [], ◌∷◌, ℕ, ◌+◌, ◌-◌, ◌*◌, eqb, ltb, length, get_or, take, drop}
+use Rattle.std.specs.Prelude.{Bool, cond, ◌&&◌, List, [], ◌∷◌, ℕ, ◌+◌, ◌-◌, ◌*◌, eqb, ltb, length, get_or, take, drop, Ok, Err}
 use Rattle.lemmas.specs.lists.Table.{table}
 use Rattle.refusal.specs.declared.Refusal.{Refusal}
 use Rattle.refusal.specs.declared.Refusal.TheVariants.{«Type», Range, Seal, Stale}
-use Rattle.refusal.specs.declared.Verdict.TheVariants as verdict
 use Rattle.aes_ccm.specs.Plan.{Plan, refuse, emit, unseal_plan}
 use Rattle.join_proxy.specs.declared.judging.JudgeResult.{JudgeResult}
 use Rattle.join_proxy.specs.declared.judging.Pledge.{Pledge}
-use Rattle.join_proxy.specs.declared.proxy.Issued.{Issued}
+use Rattle.join_proxy.specs.Issued.{Issued}
 use Rattle.join_proxy.specs.declared.proxy.Proxy.{Proxy}
 use Rattle.join_proxy.specs.Body.{number_of, nonce_with}
 use Rattle.join_proxy.specs.Keys.{count_of}
@@ -22,10 +21,10 @@ nobody =
     }
 
 abbrev pub refused_with : Refusal → JudgeResult
-refused_with k = record { verdict = verdict.Refused k; pledge = nobody }
+refused_with k = record { verdict = Err k; pledge = nobody }
 
 abbrev pub forward_to : Pledge → JudgeResult
-forward_to w = record { verdict = verdict.Accepted; pledge = w }
+forward_to w = record { verdict = Ok tt; pledge = w }
 
 -- the number was issued since the key was set, with fewer than 64 issued after it
 abbrev pub is_fresh : Issued → ℕ → Bool
@@ -56,4 +55,4 @@ opening p body = unseal_plan p.key (nonce_with (take 4 body)) [] (drop 4 body) 1
 
 unfoldable pub judge_body : Proxy → List ℕ → JudgeResult
 judge_body p body =
-    cond (eqb (length body) 31) (judge_plan p.issued (number_of (take 4 body)) (opening p body)) (refused_with «Type»)
+    cond (eqb (length body) 31) (judge_plan p.next (number_of (take 4 body)) (opening p body)) (refused_with «Type»)

@@ -1,11 +1,10 @@
 -- What holds of a proxy after any list of calls: what it issues, for which bodies it forwards a response,
 -- and that no number is sealed twice.
 -- Numbers, ages and the key are told from the calls and their answers (History), not from what the proxy keeps.
-use Rattle.std.specs.Prelude.{List, [], ◌≡◌, ℕ, ◌-◌, ◌<◌, ◌≤◌, length, get_or, take}
+use Rattle.std.specs.Prelude.{List, [], ◌≡◌, ℕ, ◌-◌, ◌<◌, ◌≤◌, length, get_or, take, Err}
 use Rattle.refusal.specs.Refusal.{number_of as refusal_number}
 use Rattle.refusal.specs.declared.Refusal.{Refusal}
 use Rattle.refusal.specs.declared.Refusal.TheVariants.{Stale}
-use Rattle.refusal.specs.declared.Verdict.TheVariants as verdict
 use Rattle.aes_ccm.specs.Plan.{refuse, emit, number_in, length_in}
 use Rattle.join_proxy.specs.declared.issuing.IssueResult.{IssueResult}
 use Rattle.join_proxy.specs.declared.judging.Pledge.{Pledge}
@@ -97,5 +96,5 @@ pub record ProxyLaws : Type 0 where
   pub refused-issue : (p : Proxy) (interface : List ℕ) (port : ℕ) (token d : List ℕ) (r : IssueResult) (d' : List ℕ) (k : Refusal)
       → Issues p interface port token d r d' → issue_plan p interface port token (length d) ≡ refuse k
       → (number_in r.written ≡ refusal_number k) × (length_in r.written ≡ 0) × (r.proxy ≡ p) × (d' ≡ d)
-  pub refused-body : (p : Proxy) (body : List ℕ) (k : Refusal) → (judge_body p body).verdict ≡ verdict.Refused k
+  pub refused-body : (p : Proxy) (body : List ℕ) (k : Refusal) → (judge_body p body).verdict ≡ Err k
       → (judge_body p body).pledge ≡ nobody

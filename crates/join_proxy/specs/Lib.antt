@@ -1,4 +1,5 @@
 pub mod Body
+pub mod Issued
 pub mod Keys
 pub mod Issuing
 pub mod Judging

@@ -1,16 +1,16 @@
 // Issuing: the option body that goes with a pledge's request.
 ghost use Rattle.std.specs.Prelude.{◌≡◌};
-ghost use Rattle.join_proxy.specs.Issuing.{Issues, raised};
+ghost use Rattle.join_proxy.specs.Issuing.{Issues, raised, unissued};
 
-use crate::body::{number_bytes, text, write_body};
-use crate::proxy::{Issued, Proxy};
-use aes_ccm::WriteResult;
+use crate::body::{text, write_body};
+use crate::proxy::Proxy;
 use refusal::Refusal;
 
 // What issuing answers, and the proxy after it.
+// Kept: not Result<(usize, Proxy), Refusal>: `Issues.goes_on` and the law `refused-issue` name the proxy after a refusal too.
 #[derive(Clone, Copy)]
 pub struct IssueResult {
-    pub written: WriteResult,
+    pub written: Result<usize, Refusal>,
     pub proxy: Proxy,
 }
 
@@ -20,42 +20,39 @@ impl Proxy {
         ensures { Issues self interface port token.now dst.old result dst.new }
     {
         if 8 < token.len() {
-            return IssueResult {
-                written: WriteResult::Refused(Refusal::Range),
-                proxy: self,
-            };
+            return self.unissued(Refusal::Range);
         }
-        let issued = self.issued;
-        let Issued::Count(number) = issued else {
-            return IssueResult {
-                written: WriteResult::Refused(Refusal::Spent),
-                proxy: self,
-            };
+        let Some(number) = self.next else {
+            return self.unissued(Refusal::Spent);
         };
         if dst.len() < 31 {
-            return IssueResult {
-                written: WriteResult::Refused(Refusal::Room),
-                proxy: self,
-            };
+            return self.unissued(Refusal::Room);
         }
         let key = self.key;
-        write_body(key, number_bytes(number), text(interface, port, token), dst);
+        write_body(key, number.to_be_bytes(), text(interface, port, token), dst);
         IssueResult {
-            written: WriteResult::Length(31),
+            written: Ok(31),
             proxy: Proxy {
                 key,
-                issued: after(number),
+                next: after(number),
             },
+        }
+    }
+
+    // A refused issue leaves the proxy.
+    fn unissued(self, why: Refusal) -> IssueResult
+        ensures { result ≡ unissued why self }
+    {
+        IssueResult {
+            written: Err(why),
+            proxy: self,
         }
     }
 }
 
-// How many are issued once this number is.
-fn after(number: u32) -> Issued
+// The number after this one; none after 4,294,967,295.
+fn after(number: u32) -> Option<u32>
     ensures { result ≡ raised number }
 {
-    if number == 4294967295 {
-        return Issued::All;
-    }
-    Issued::Count(number + 1)
+    number.checked_add(1)
 }

@@ -4,9 +4,9 @@ ghost use Rattle.join_proxy.specs.Body.{number_of};
 ghost use Rattle.join_proxy.specs.Judging.{judge_body, judge_text, refused_with, is_fresh, pledge_in};
 
 use crate::body::nonce;
-use crate::proxy::{Issued, Proxy};
-use aes_ccm::WriteResult;
-use refusal::{Refusal, Verdict};
+use crate::proxy::Proxy;
+use refusal::Refusal;
+use std::array::from_fn;
 
 // Whom a body names: the pledge by its interface identifier and port, and the token of its request, zeros after its length.
 #[derive(Clone, Copy)]
@@ -18,9 +18,10 @@ pub struct Pledge {
 }
 
 // Accepted means forwarded, to this pledge; with a refusal all of it is zero.
+// Kept: not Result<Pledge, Refusal>: document 01 answers an empty object beside a refusal, and the law `refused-body` says so.
 #[derive(Clone, Copy)]
 pub struct JudgeResult {
-    pub verdict: Verdict,
+    pub verdict: Result<(), Refusal>,
     pub pledge: Pledge,
 }
 
@@ -34,16 +35,12 @@ impl Proxy {
             return refused(Refusal::Type);
         }
         let front = [body[0], body[1], body[2], body[3]];
-        let none = [0u8; 1];
         let mut text = [0u8; 19];
-        let key = self.key;
-        let written = aes_ccm::unseal(key, nonce(front), &none[..0], &body[4..], &mut text);
-        let WriteResult::Length(_) = written else {
+        let written = aes_ccm::unseal(self.key, nonce(front), &[], &body[4..], &mut text);
+        let Ok(_) = written else {
             return refused(Refusal::Seal);
         };
-        let issued = self.issued;
-        let number = number_of(body[0], body[1], body[2], body[3]);
-        forwarded(issued, number, text)
+        forwarded(self.next, u32::from_be_bytes(front), text)
     }
 }
 
@@ -51,7 +48,7 @@ fn refused(refusal: Refusal) -> JudgeResult
     ensures { result ≡ refused_with refusal }
 {
     JudgeResult {
-        verdict: Verdict::Refused(refusal),
+        verdict: Err(refusal),
         pledge: Pledge {
             interface: [0; 8],
             port: 0,
@@ -61,61 +58,31 @@ fn refused(refusal: Refusal) -> JudgeResult
     }
 }
 
-// The number that four bytes are, the most significant first.
-fn number_of(a: u8, b: u8, c: u8, d: u8) -> u32
-    ensures { result ≡ number_of (a ∷ b ∷ c ∷ d ∷ []) }
+// Whether the number was issued with this key, and fewer than 64 after it; `next` is the number after those that were.
+fn is_fresh(next: Option<u32>, number: u32) -> bool
+    ensures { result ≡ is_fresh next number }
 {
-    (a as u32) * 16777216 + (b as u32) * 65536 + (c as u32) * 256 + (d as u32)
-}
-
-// Whether the number was issued with this key, and fewer than 64 after it.
-fn is_fresh(issued: Issued, number: u32) -> bool
-    ensures { result ≡ is_fresh issued number }
-{
-    match issued {
-        Issued::Count(count) => count_is_fresh(count, number),
-        Issued::All => 4294967295 - number < 64,
+    match next {
+        Some(count) => number < count && count - 1 - number < 64,
+        None => u32::MAX - number < 64,
     }
-}
-
-fn count_is_fresh(count: u32, number: u32) -> bool
-    ensures { result ≡ is_fresh (Issued.Count count) number }
-{
-    if number < count {
-        return count - 1 - number < 64;
-    }
-    false
 }
 
 // What the text under the seal leads to.
-fn forwarded(issued: Issued, number: u32, text: [u8; 19]) -> JudgeResult
-    ensures { result ≡ judge_text issued number text }
+fn forwarded(next: Option<u32>, number: u32, text: [u8; 19]) -> JudgeResult
+    ensures { result ≡ judge_text next number text }
 {
     let len = text[10];
     if 8 < len {
         return refused(Refusal::Range);
     }
-    if is_fresh(issued, number) {
+    if is_fresh(next, number) {
         return JudgeResult {
-            verdict: Verdict::Accepted,
+            verdict: Ok(()),
             pledge: pledge_in(text),
         };
     }
     refused(Refusal::Stale)
-}
-
-// Byte i of the token, whose length is `len`.
-fn token_byte(byte: u8, i: u8, len: u8) -> u8
-    ensures { result ≡ cond (ltb i len) byte 0 }
-{
-    if i < len { byte } else { 0 }
-}
-
-// The port that two bytes are, the most significant first.
-fn port_of(high: u8, low: u8) -> u16
-    ensures { result ≡ high * 256 + low }
-{
-    (high as u16) * 256 + (low as u16)
 }
 
 // The pledge and the token that a text names.
@@ -123,22 +90,10 @@ fn pledge_in(text: [u8; 19]) -> Pledge
     ensures { result ≡ pledge_in text }
 {
     let len = text[10];
-    let port = port_of(text[8], text[9]);
     Pledge {
-        interface: [
-            text[0], text[1], text[2], text[3], text[4], text[5], text[6], text[7],
-        ],
-        port,
+        interface: from_fn(|i| text[i]),
+        port: u16::from_be_bytes([text[8], text[9]]),
         len,
-        token: [
-            token_byte(text[11], 0, len),
-            token_byte(text[12], 1, len),
-            token_byte(text[13], 2, len),
-            token_byte(text[14], 3, len),
-            token_byte(text[15], 4, len),
-            token_byte(text[16], 5, len),
-            token_byte(text[17], 6, len),
-            token_byte(text[18], 7, len),
-        ],
+        token: from_fn(|i| if i < len as usize { text[11 + i] } else { 0 }),
     }
 }

@@ -13,7 +13,7 @@ ghost use Rattle.join_proxy.specs.Laws.{ProxyLaws};
 
 pub use issuing::IssueResult;
 pub use judging::{JudgeResult, Pledge};
-pub use proxy::{Issued, Proxy, SetKeyResult};
+pub use proxy::{Proxy, SetKeyResult};
 
 // What holds of a proxy after any list of calls, and for which bodies a response is forwarded.
 pub fn laws()

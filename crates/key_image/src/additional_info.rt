@@ -3,7 +3,7 @@ ghost use Rattle.std.specs.Prelude.{◌≡◌, ◌+◌, ◌≤◌, length, drop}
 ghost use Rattle.byte_io.specs.Write.{Wrote};
 ghost use Rattle.key_image.specs.AdditionalInfo.{additional_info_part};
 
-use image::{number_at, put_array_8, put_byte};
+use image::{number_at, put_array, put_byte};
 use link_key::{AdditionalInfo, additional_info_bytes};
 
 // The information from a place on.
@@ -11,23 +11,20 @@ pub(crate) fn additional_info_at(src: &[u8], at: usize) -> AdditionalInfo
     requires { at + 9 ≤ length src.now }
     ensures { result ≡ additional_info_part.get (drop at src.now) }
 {
-    let len = src[at];
-    if len == 0 {
-        return AdditionalInfo::Absent;
+    match src[at] {
+        0 => AdditionalInfo::Absent,
+        4 => AdditionalInfo::Four(src[at + 1], src[at + 2], src[at + 3], src[at + 4]),
+        _ => AdditionalInfo::Eight(
+            src[at + 1],
+            src[at + 2],
+            src[at + 3],
+            src[at + 4],
+            src[at + 5],
+            src[at + 6],
+            src[at + 7],
+            src[at + 8],
+        ),
     }
-    if len == 4 {
-        return AdditionalInfo::Four(src[at + 1], src[at + 2], src[at + 3], src[at + 4]);
-    }
-    AdditionalInfo::Eight(
-        src[at + 1],
-        src[at + 2],
-        src[at + 3],
-        src[at + 4],
-        src[at + 5],
-        src[at + 6],
-        src[at + 7],
-        src[at + 8],
-    )
 }
 
 // Whether there are 0, 4 or 8 bytes, and zeros after them.
@@ -51,7 +48,6 @@ pub(crate) fn put_additional_info(dst: &mut [u8], info: AdditionalInfo)
     ensures { Wrote (additional_info_part.put info) dst.old 9 dst.new }
 {
     let spread = additional_info_bytes(info);
-    let bytes = spread.bytes;
     put_byte(dst, spread.len as u8);
-    put_array_8(&mut dst[1..], bytes);
+    put_array(&mut dst[1..], &spread.bytes);
 }

@@ -4,7 +4,7 @@ ghost use Rattle.byte_io.specs.Write.{Wrote};
 ghost use Rattle.key_image.specs.Key.{key_part};
 
 use crate::additional_info::{additional_info_at, is_additional_info, put_additional_info};
-use image::{array_16_at, put_array_16, put_byte};
+use image::{array_at, put_array, put_byte};
 use link_key::Key;
 
 // The key from a place on.
@@ -15,7 +15,7 @@ pub fn key_at(src: &[u8], at: usize) -> Key
     Key {
         identifier: src[at],
         usage: src[at + 1],
-        value: array_16_at(src, at + 2),
+        value: array_at(src, at + 2),
         info: additional_info_at(src, at + 18),
     }
 }
@@ -33,10 +33,8 @@ pub fn put_key(dst: &mut [u8], key: Key)
     requires { 27 ≤ length dst.old }
     ensures { Wrote (key_part.put key) dst.old 27 dst.new }
 {
-    let value = key.value;
-    let info = key.info;
     put_byte(dst, key.identifier);
     put_byte(&mut dst[1..], key.usage);
-    put_array_16(&mut dst[2..], value);
-    put_additional_info(&mut dst[18..], info);
+    put_array(&mut dst[2..], &key.value);
+    put_additional_info(&mut dst[18..], key.info);
 }

@@ -11,101 +11,41 @@ pub const LONGEST: usize = 1099511627776;
 
 #[derive(Drop)]
 pub struct Journal {
-    // the file, if the session has a journal
-    file: Option<File>,
+    pub file: File,
     // how many bytes of the file are whole; 0 before the range is opened
     pub whole: usize,
     // the check that the next record continues
     pub check: u32,
-    // why a write or a sync failed, if one did: nothing is answered from then on
-    failure: Option<io::Error>,
 }
 
 impl Journal {
-    // The journal of a session that has none.
-    pub fn none() -> Journal {
-        Journal {
-            file: None,
-            whole: 0,
-            check: 0,
-            failure: None,
-        }
+    // Writes a header for the range of this ledger.
+    pub fn begin(&mut self, ledger: Ledger) -> io::Result<()> {
+        let first = part_of_range(ledger.first)?;
+        let size = part_of_range(ledger.size)?;
+        self.append(&header_of(first, size), header_check(first, size))
     }
 
-    // The journal in a file, with so many whole bytes.
-    pub fn of(file: File, whole: usize, check: u32) -> Journal {
-        Journal {
-            file: Some(file),
-            whole,
-            check,
-            failure: None,
-        }
-    }
-
-    // Whether the session has one.
-    pub fn is_used(&self) -> bool {
-        self.file.is_some()
-    }
-
-    pub fn has_failed(&self) -> bool {
-        self.failure.is_some()
-    }
-
-    // The error of a write or a sync, if one failed.
-    pub fn outcome(&self) -> io::Result<()> {
-        match self.failure {
-            None => Ok(()),
-            Some(error) => Err(error),
-        }
-    }
-
-    // The journal with a header for the range of this ledger.
-    pub fn begun(self, ledger: Ledger) -> Journal {
-        if 65535 < ledger.first {
-            return self.stopped(too_large());
-        }
-        if 65535 < ledger.size {
-            return self.stopped(too_large());
-        }
-        let first = ledger.first as u16;
-        let size = ledger.size as u16;
-        self.appended(&header_of(first, size), header_check(first, size))
-    }
-
-    // The journal with 16 bytes more, written and synced.
-    pub fn appended(self, bytes: &[u8; 16], check: u32) -> Journal {
-        let mut journal = self;
-        let whole = journal.whole;
+    // Writes 16 bytes more, and syncs the file. After an error nothing is answered: a failed sync is not tried again, since the system may
+    // have dropped what it could not write.
+    pub fn append(&mut self, bytes: &[u8; 16], check: u32) -> io::Result<()> {
+        let whole = self.whole;
         if LONGEST < whole {
-            return journal.stopped(too_large());
+            return Err(too_large());
         }
-        match journal.written(bytes) {
-            Ok(()) => {
-                journal.whole = whole + 16;
-                journal.check = check;
-                journal
-            }
-            Err(error) => journal.stopped(error),
-        }
-    }
-
-    // Writes 16 bytes after those that are whole, and syncs the file. Where one write does not take them all, the record is not whole.
-    fn written(&self, bytes: &[u8; 16]) -> io::Result<()> {
-        let Some(file) = &self.file else {
-            return Err(io::Error::from(ErrorKind::NotFound));
-        };
-        if file.write_at(bytes, self.whole as u64)? != 16 {
+        if self.file.write_at(bytes, whole as u64)? != 16 {
             return Err(io::Error::from(ErrorKind::WriteZero));
         }
-        file.sync_data()
+        self.file.sync_data()?;
+        self.whole = whole + 16;
+        self.check = check;
+        Ok(())
     }
+}
 
-    // The journal after a write or a sync that failed. A failed sync is not tried again: the system may have dropped what it could not
-    // write.
-    fn stopped(mut self, error: io::Error) -> Journal {
-        self.failure = Some(error);
-        self
-    }
+// The first address or the size of a range, as a header has it.
+fn part_of_range(number: usize) -> io::Result<u16> {
+    u16::try_from(number).map_err(|_| too_large())
 }
 
 // That a journal, or a range, is larger than any.

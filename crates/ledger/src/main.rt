@@ -5,102 +5,91 @@ mod answer;
 mod commands;
 mod journal;
 mod memory;
+mod recorder;
 mod resuming;
 mod start;
 mod state;
 
 use crate::commands::{Board, Bytes, command_of, next_line};
-use memory::Memory;
-use start::{Path, is_echo_asked, journal_path, share_asked, start};
-use state::{LedgerState, execute};
+use recorder::Recorder;
+use start::{is_echo_asked, journal_path, share_asked, start};
+use state::LedgerState;
 use std::env::Env;
 use std::fs::{File, Files};
-use std::io::ErrorKind;
-use std::{fs, io, str};
+use std::{fs, io};
 use tool_text::input::Input;
-use tool_text::output::{Buffer, Output};
+use tool_text::line_error::put_line_error;
+use tool_text::output::Output;
 use tool_text::session::Session;
 
-// What is kept from line to line, beside the memory.
+// What is kept from line to line.
 #[derive(Drop)]
-struct ToolState {
-    session: Session,
+struct Tool {
     state: LedgerState,
+    // what keeps the journal, if the session has one
+    recorder: Option<Recorder>,
+    board: Board,
+    hex: Bytes,
 }
 
-// Answers the next line; an empty one and a comment are not answered.
-fn answer_line(
-    desk: ToolState,
-    bytes: &mut Buffer,
-    board: &mut Board,
-    hex: &mut Bytes,
-    memory: &mut Memory,
-    buffer: &mut Buffer,
-) -> ToolState {
-    let asked = next_line(desk.session, bytes, board, hex, buffer);
-    let mut session = asked.session;
-    let done = execute(
-        desk.state,
-        command_of(asked.line),
-        board,
-        memory,
-        hex,
-        session.out,
-        buffer,
-    );
-    let fixture = done.state;
-    session.out = done.out;
-    session.open = session.open & !fixture.journal.has_failed();
-    ToolState {
-        session,
-        state: fixture,
-    }
-}
-
-// Answers line after line until the input ends or nobody reads the answers.
-fn run(
-    rt: &impl Eprint,
-    mut desk: ToolState,
-    bytes: &mut Buffer,
-    board: &mut Board,
-    hex: &mut Bytes,
-    memory: &mut Memory,
-    buffer: &mut Buffer,
-) -> io::Result<()> {
-    for _ in 0..u64::MAX {
-        if !desk.session.open {
-            break;
+impl Tool {
+    fn new(state: LedgerState, recorder: Option<Recorder>) -> Tool {
+        Tool {
+            state,
+            recorder,
+            board: [0; 9],
+            hex: [0; 40001],
         }
-        desk = answer_line(desk, bytes, board, hex, memory, buffer);
     }
-    let recorded = desk.state.journal.outcome();
-    let told = match recorded {
-        Err(error) => eprintln!(rt;
-            "ledger: the journal was not written, the last command is not answered, and the session ends: {error}"
-        ),
-        Ok(()) => Ok(()),
-    };
-    desk.session.end(buffer)?;
+
+    // Answers the next line; an empty one and a comment are not answered. The error is that of a journal that was not written.
+    fn answer_line(&mut self, session: &mut Session) -> io::Result<()> {
+        let line = next_line(session, &mut self.board, &mut self.hex);
+        if line.is_silent() {
+            return Ok(());
+        }
+        match command_of(line, &self.board, &self.hex) {
+            Err(error) => put_line_error(&mut session.out, error),
+            Ok(command) => match &mut self.recorder {
+                None => self.state.carry_out(command, &mut session.out),
+                Some(recorder) => recorder.carry_out(&mut self.state, command, &mut session.out)?,
+            },
+        }
+        session.out.byte(b'\n');
+        Ok(())
+    }
+}
+
+// Answers line after line until the input ends, nobody reads the answers or the journal is not written.
+fn run(rt: &impl Eprint, session: Session, mut tool: Tool) -> io::Result<()> {
+    let mut recorded = Ok(());
+    let mut told = Ok(());
+    let ended = session.run(|session| {
+        if let Err(error) = tool.answer_line(session) {
+            told = eprintln!(rt;
+                "ledger: the journal was not written, the last command is not answered, and the session ends: {error}"
+            );
+            recorded = Err(error);
+            session.open = false;
+        }
+    });
+    ended?;
     told?;
     recorded
 }
 
 // A session without a journal.
-fn plain_session(rt: &impl Env, input: Input, out: Output, buffer: &mut Buffer) -> ToolState {
+fn plain_session(rt: &(impl Env + Eprint), input: Input, out: Output) -> io::Result<()> {
     let session = Session::begin(
         rt,
         input,
         out,
-        b"ledger: short addresses granted to boards and given back (docs/TOOLS.md).\n\
+        "ledger: short addresses granted to boards and given back (docs/TOOLS.md).\n\
 open FIRST SIZE, grant BOARD, back BOARD, free, list, who ADDRESS, holds BOARD,\n\
 lend N, read PLACE N, write PLACE HEX, clear, count N, marks G.., show\n\
 --journal FILE keeps every change in FILE and resumes from it; --echo or --fixture K N may follow.\n",
-        buffer,
     );
-    ToolState {
-        session,
-        state: LedgerState::new(),
-    }
+    run(rt, session, Tool::new(LedgerState::new(), None))
 }
 
 // A session over the journal with this path, whose lock is taken. Where the file cannot be used, the reason goes to standard error, and no
@@ -110,35 +99,25 @@ fn journal_session(
     path: &str,
     folder: &str,
     input: Input,
-    out: Output,
-    memory: &mut Memory,
-    buffer: &mut Buffer,
-) -> io::Result<ToolState> {
-    match start(rt, path, folder, memory, out, buffer) {
+    mut out: Output,
+) -> io::Result<()> {
+    let mut state = LedgerState::new();
+    match start(rt, path, folder, &mut state, &mut out) {
         Err(error) => {
             eprintln!(rt; "{path}: {error}")?;
             Err(error)
         }
-        Ok(started) => Ok(ToolState {
-            session: Session {
+        Ok(journal) => {
+            let session = Session {
                 input,
-                out: started.out,
+                out,
                 echo: is_echo_asked(rt),
-                open: started.open,
-            },
-            state: LedgerState::resumed(started.ledger, started.journal, share_asked(rt)),
-        }),
-    }
-}
-
-// The path of a journal, from the argument's bytes.
-fn path_of(path: &Path, len: usize) -> io::Result<&str> {
-    match str::from_utf8(tool_text::first(path, len)) {
-        Ok(text) => Ok(text),
-        Err(_) => Err(io::Error::new(
-            ErrorKind::InvalidInput,
-            "the path of the journal is no UTF-8 text",
-        )),
+                open: journal.is_some(),
+            };
+            let share = share_asked(rt);
+            let recorder = journal.map(|journal| Recorder { journal, share });
+            run(rt, session, Tool::new(state, recorder))
+        }
     }
 }
 
@@ -157,51 +136,16 @@ fn take_lock(rt: &(impl Files + Eprint), lock: &str) -> io::Result<()> {
 }
 
 fn main(rt: HostRuntime) -> io::Result<()> {
-    let mut bytes = [0u8; 65536];
-    let mut board = [0u8; 9];
-    let mut hex = [0u8; 40001];
-    let mut memory = [0u8; 40000];
-    let mut buffer = [0u8; 65536];
     let mut path = [0u8; 4096];
     let input = Input::new(rt.stdin());
     let out = Output::new(rt.stdout());
-    let len = journal_path(&rt, &mut path);
-    if len == 0 {
-        let desk = plain_session(&rt, input, out, &mut buffer);
-        return run(
-            &rt,
-            desk,
-            &mut bytes,
-            &mut board,
-            &mut hex,
-            &mut memory,
-            &mut buffer,
-        );
-    }
-    let path = path_of(&path, len)?;
+    let Some(path) = journal_path(&rt, &mut path)? else {
+        return plain_session(&rt, input, out);
+    };
     let lock = format!(in rt.alloc(); "{path}.lock")?;
     let folder = format!(in rt.alloc(); "{lock}/..")?;
     take_lock(&rt, lock.as_str())?;
-    let ended = match journal_session(
-        &rt,
-        path,
-        folder.as_str(),
-        input,
-        out,
-        &mut memory,
-        &mut buffer,
-    ) {
-        Err(error) => Err(error),
-        Ok(desk) => run(
-            &rt,
-            desk,
-            &mut bytes,
-            &mut board,
-            &mut hex,
-            &mut memory,
-            &mut buffer,
-        ),
-    };
+    let ended = journal_session(&rt, path, folder.as_str(), input, out);
     let released = fs::remove_dir(&rt, lock.as_str());
     ended?;
     released

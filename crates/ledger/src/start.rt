@@ -1,49 +1,39 @@
 // How a session with a journal starts: the lock, the file, and what is made again from it.
-use crate::answer::{put_check, put_damage};
+use crate::answer::put_damage;
 use crate::journal::{Journal, LONGEST, too_large};
-use crate::memory::Memory;
-use crate::resuming::{Reading, Resuming, resume};
-use address_ledger::Ledger;
+use crate::recorder::Share;
+use crate::resuming::{Resumed, StartError, resume};
+use crate::state::LedgerState;
 use address_ledger::range::count;
 use std::env::Env;
 use std::fs::{File, Files, OpenOptions};
 use std::io::ErrorKind;
-use std::{fs, io};
+use std::{fs, io, str};
 use tool_numerals::decimal::Decimal;
 use tool_text::arguments::{argument, is_given};
-use tool_text::output::{Buffer, Output};
+use tool_text::output::{ByteString, Output};
 
 pub type Path = [u8; 4096];
 
 // A path that leaves room for what is put after it.
 const LONGEST_PATH: usize = 4000;
 
-// The session's ledger and journal, what was written, and whether there is a journal to go on with.
-#[derive(Drop)]
-pub struct Started {
-    pub ledger: Ledger,
-    pub journal: Journal,
-    pub out: Output,
-    pub open: bool,
-}
-
-// The length of the path after `--journal`, the first argument; 0 if the arguments are others.
-pub fn journal_path(rt: &impl Env, path: &mut Path) -> usize {
+// The path after `--journal`, the first argument; none if the arguments are others.
+pub fn journal_path<'a>(rt: &impl Env, path: &'a mut Path) -> io::Result<Option<&'a str>> {
     if !argument(rt, 1).is(b"--journal") {
-        return 0;
+        return Ok(None);
     }
-    match rt.arg(2, path) {
-        Ok(len) => within(len),
-        Err(_) => 0,
+    let len = rt.arg(2, path).unwrap_or(0);
+    if len == 0 || LONGEST_PATH < len {
+        return Ok(None);
     }
-}
-
-// The length, or 0 where the path is too long.
-fn within(len: usize) -> usize {
-    if LONGEST_PATH < len {
-        return 0;
+    match str::from_utf8(tool_text::first(path, len)) {
+        Ok(text) => Ok(Some(text)),
+        Err(_) => Err(io::Error::new(
+            ErrorKind::InvalidInput,
+            "the path of the journal is no UTF-8 text",
+        )),
     }
-    len
 }
 
 // Whether the lines are to be written too.
@@ -51,41 +41,30 @@ pub fn is_echo_asked(rt: &impl Env) -> bool {
     argument(rt, 3).is(b"--echo") && !is_given(rt, 4)
 }
 
-// Which fixture this is, of how many that share a range.
-#[derive(Clone, Copy)]
-pub struct Share {
-    pub fixture: usize,
-    pub fixtures: usize,
-}
-
 // A range that is not shared.
-pub const WHOLE: Share = Share {
+const WHOLE: Share = Share {
     fixture: 1,
     fixtures: 1,
 };
 
-// The numbers after `--fixture`, the third argument; without it the range is not shared.
+// The numbers after `--fixture`, the third argument; without it the range is not shared. No fixture has the number 0, which stands for an
+// argument that is no number.
 pub fn share_asked(rt: &impl Env) -> Share {
     if argument(rt, 3).is(b"--fixture") && is_given(rt, 5) && !is_given(rt, 6) {
         return Share {
-            fixture: number(rt, 4),
-            fixtures: number(rt, 5),
+            fixture: number(rt, 4).unwrap_or(0),
+            fixtures: number(rt, 5).unwrap_or(0),
         };
     }
     WHOLE
 }
 
-// The argument as a number; 0 if it is none.
-fn number(rt: &impl Env, i: usize) -> usize {
+// The argument as a number.
+fn number(rt: &impl Env, i: usize) -> Option<usize> {
     let mut digits = [0u8; 16];
-    let Ok(len) = rt.arg(i, &mut digits) else {
-        return 0;
-    };
-    let none = Decimal::Empty;
-    match none.more(tool_text::first(&digits, len)) {
-        Decimal::Number(n) => n as usize,
-        _ => 0,
-    }
+    let len = rt.arg(i, &mut digits).ok()?;
+    let number = Decimal::Empty.more(tool_text::first(&digits, len));
+    Some(number.value()? as usize)
 }
 
 // Opens the journal, or makes an empty one; its folder is synced then.
@@ -117,86 +96,62 @@ fn sync_folder(rt: &impl Files<File = File>, folder: &str) -> io::Result<()> {
     file.sync_all()
 }
 
-// The session over the journal with this path. What a cut left is dropped, and the file is synced: its last record may have been written by
-// a process that ended before its sync. Where the file cannot be used, the error says why.
+// Resumes the journal with this path; none where it is refused, and then the reason is written. What a cut left is dropped, and the file is
+// synced: its last record may have been written by a process that ended before its sync. Where the file cannot be used, the error says why.
 pub fn start(
     rt: &impl Files<File = File>,
     path: &str,
     folder: &str,
-    memory: &mut Memory,
-    out: Output,
-    buffer: &mut Buffer,
-) -> io::Result<Started> {
+    state: &mut LedgerState,
+    out: &mut Output,
+) -> io::Result<Option<Journal>> {
     let file = open_file(rt, path, folder)?;
-    let read = resume(&file, memory);
-    match read.reading {
-        Reading::Ended => begun(file, read, out, buffer),
-        Reading::Refused(number) => Ok(nothing(put_damage(out, number, read.whole, buffer))),
-        Reading::Failed(error) => Err(error),
-        Reading::GoesOn => Err(too_large()),
+    match resume(&file, &mut state.memory) {
+        Ok(resumed) => {
+            let journal = resumed_journal(file, resumed)?;
+            put_resumed(out, resumed);
+            state.ledger = resumed.ledger;
+            Ok(Some(journal))
+        }
+        Err(StartError::Refused(error, offset)) => {
+            put_damage(out, error, offset);
+            Ok(None)
+        }
+        Err(StartError::Failed(error)) => Err(error),
     }
 }
 
-fn begun(file: File, read: Resuming, out: Output, buffer: &mut Buffer) -> io::Result<Started> {
-    if LONGEST < read.whole {
+fn resumed_journal(file: File, resumed: Resumed) -> io::Result<Journal> {
+    if LONGEST < resumed.whole {
         return Err(too_large());
     }
-    if 0 < read.cut {
-        file.set_len(read.whole as u64)?;
+    if 0 < resumed.cut {
+        file.set_len(resumed.whole as u64)?;
     }
     file.sync_all()?;
-    Ok(Started {
-        ledger: read.ledger,
-        journal: Journal::of(file, read.whole, read.check),
-        out: put_resumed(read, out, buffer),
-        open: true,
+    Ok(Journal {
+        file,
+        whole: resumed.whole,
+        check: resumed.check,
     })
 }
 
 // What was dropped, and what was made again; nothing of a journal without a range.
-fn put_resumed(read: Resuming, out: Output, buffer: &mut Buffer) -> Output {
-    let mut out = out;
-    if 0 < read.cut {
-        out = out
-            .text(b"dropped bytes=", buffer)
-            .number(read.cut as u64, buffer)
-            .text(b" at=", buffer)
-            .number(read.whole as u64, buffer)
-            .byte(b'\n', buffer);
+fn put_resumed(out: &mut Output, resumed: Resumed) {
+    if 0 < resumed.cut {
+        write!(out, "dropped bytes={} at={}\n", resumed.cut, resumed.whole);
     }
-    if read.whole == 0 {
-        return out;
+    if resumed.whole == 0 {
+        return;
     }
-    put_ledger_resumed(out, read.ledger, read.check, buffer)
-}
-
-fn put_ledger_resumed(out: Output, ledger: Ledger, check: u32, buffer: &mut Buffer) -> Output {
-    let counted = count(ledger.first, ledger.size);
-    let mut held: usize = 0;
-    if ledger.free <= counted {
-        held = counted - ledger.free;
-    }
-    let out = out
-        .text(b"resumed first=", buffer)
-        .number(ledger.first as u64, buffer);
-    let out = out
-        .text(b" size=", buffer)
-        .number(ledger.size as u64, buffer);
-    let out = out.text(b" held=", buffer).number(held as u64, buffer);
-    let out = out
-        .text(b" free=", buffer)
-        .number(ledger.free as u64, buffer);
-    put_check(out.text(b" check=", buffer), check, buffer).byte(b'\n', buffer)
-}
-
-// No line is read, after what was written.
-fn nothing(out: Output) -> Started {
-    let opened = Ledger::open(0, 0, b"");
-    let ledger = opened.ledger;
-    Started {
-        ledger,
-        journal: Journal::none(),
+    let ledger = resumed.ledger;
+    let held = count(ledger.first, ledger.size).saturating_sub(ledger.free);
+    write!(
         out,
-        open: false,
-    }
+        "resumed first={} size={} held={held} free={} check={}\n",
+        ledger.first,
+        ledger.size,
+        ledger.free,
+        ByteString(&resumed.check.to_be_bytes())
+    );
 }

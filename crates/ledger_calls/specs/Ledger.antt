@@ -1,10 +1,11 @@
 -- The calls of a ledger from C: the ledger stands in its image, the places in lent memory.
-use Rattle.std.specs.Prelude.{ℕ, Bool, true, ◌&&◌, List, [], ◌≡◌, eqb, length}
+use Rattle.std.specs.Prelude.{ℕ, Bool, true, cond, ◌&&◌, List, [], ◌≡◌, eqb, length, Option, Some, None}
 use Rattle.refusal.specs.Verdict.{verdict_number}
-use Rattle.refusal.specs.declared.Verdict.{Verdict}
+use Rattle.refusal.specs.Verdict.{Verdict}
 use Rattle.image.specs.Part.{is_image}
 use Rattle.address_ledger.specs.Ledger.{opened}
 use Rattle.address_ledger_laws.specs.Demand1.{LedgerCall, opening, asking, returning, counting, Performed, perform}
+use Rattle.address_ledger.specs.declared.ledger.Ledger.{Ledger}
 use Rattle.state_image.specs.Ledger.{ledger_image}
 use Rattle.image.specs.Effects.{on_accept, checked_first, result_bytes}
 
@@ -30,6 +31,10 @@ performed_in c s m = perform c (ledger_image.get s) m
 
 abbrev pub ledger_verdict : LedgerCall → List ℕ → List ℕ → Verdict
 ledger_verdict c s m = checked_first (board_fits c && is_image ledger_image s) (performed_in c s m).verdict
+
+-- the ledger in the image and the board, where both are what they should be
+abbrev pub lent : List ℕ → List ℕ → Option (Ledger × List ℕ)
+lent s b = cond (eqb (length b) 8 && is_image ledger_image s) (Some (ledger_image.get s, b)) None
 
 -- the call on image s and memory m answered the number r and the value v, and left s' and m'
 pub record LedgerDid (c : LedgerCall) (s m : List ℕ) (r : ℕ) (s' m' : List ℕ) (v : ℕ) : Type 0 where

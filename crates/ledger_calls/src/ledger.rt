@@ -1,10 +1,11 @@
 // The address ledger.
 ghost use Rattle.address_ledger_laws.specs.Demand1.{asking, returning};
-ghost use Rattle.ledger_calls.specs.Ledger.{Opens, LedgerDid, Counts};
+ghost use Rattle.std.specs.Prelude.{◌≡◌};
+ghost use Rattle.ledger_calls.specs.Ledger.{Opens, LedgerDid, Counts, lent};
 
 use crate::store::{store_address, store_ledger};
-use address_ledger::{FreeAnswer, Ledger};
-use image::{RANGE, array_8_at};
+use address_ledger::Ledger;
+use image::{RANGE, array_at};
 use state_image::{is_ledger, ledger_in};
 
 // Opens a ledger over memory that may hold earlier grants.
@@ -15,9 +16,17 @@ pub fn ledger_open(first: u64, size: u64, memory: &[u8], ledger: &mut [u8]) -> u
         return RANGE;
     }
     let opened = Ledger::open(first as usize, size as usize, memory);
-    let verdict = opened.verdict;
-    let made = opened.ledger;
-    store_ledger(verdict, made, ledger)
+    store_ledger(opened.verdict, opened.ledger, ledger)
+}
+
+// The ledger of an image and the board of eight bytes, where both are what they should be.
+fn lent(ledger: &[u8], board: &[u8]) -> Option<(Ledger, [u8; 8])>
+    ensures { result ≡ lent ledger.now board.now }
+{
+    if board.len() == 8 && is_ledger(ledger) {
+        return Some((ledger_in(ledger), array_at(board, 0)));
+    }
+    None
 }
 
 // Grants the board the lowest free address, or the one that it holds.
@@ -26,18 +35,13 @@ pub fn ledger_grant(ledger: &mut [u8], memory: &mut [u8], board: &[u8], address:
         memory.new address.new }
 {
     address_ledger_laws::demand1();
-    if board.len() != 8 {
+    let Some(parts) = lent(ledger, board) else {
         *address = 0;
         return RANGE;
-    }
-    if !is_ledger(ledger) {
-        *address = 0;
-        return RANGE;
-    }
-    let done = ledger_in(ledger).grant(memory, array_8_at(board, 0));
-    let answer = done.answer;
-    let after = done.ledger;
-    store_address(answer, after, ledger, address)
+    };
+    let holder = parts.1;
+    let done = parts.0.grant(memory, holder);
+    store_address(done.answer, done.ledger, ledger, address)
 }
 
 // Takes the board's address back.
@@ -51,18 +55,13 @@ pub fn ledger_give_back(
         memory.new address.new }
 {
     address_ledger_laws::demand1();
-    if board.len() != 8 {
+    let Some(parts) = lent(ledger, board) else {
         *address = 0;
         return RANGE;
-    }
-    if !is_ledger(ledger) {
-        *address = 0;
-        return RANGE;
-    }
-    let done = ledger_in(ledger).give_back(memory, array_8_at(board, 0));
-    let answer = done.answer;
-    let after = done.ledger;
-    store_address(answer, after, ledger, address)
+    };
+    let holder = parts.1;
+    let done = parts.0.give_back(memory, holder);
+    store_address(done.answer, done.ledger, ledger, address)
 }
 
 // How many addresses are free.
@@ -73,13 +72,12 @@ pub fn ledger_free(ledger: &[u8], count: &mut u64) -> u32
         *count = 0;
         return RANGE;
     }
-    let answer = ledger_in(ledger).free();
-    match answer {
-        FreeAnswer::Count(n) => {
+    match ledger_in(ledger).free() {
+        Ok(n) => {
             *count = n as u64;
             0
         }
-        FreeAnswer::Refused(why) => {
+        Err(why) => {
             *count = 0;
             why.number() as u32
         }

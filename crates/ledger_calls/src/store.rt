@@ -5,23 +5,24 @@ ghost use Rattle.address_ledger.specs.Answers.{address_verdict, address_value};
 ghost use Rattle.state_image.specs.Ledger.{ledger_image};
 ghost use Rattle.image.specs.Effects.{on_accept};
 
-use address_ledger::{AddressAnswer, Ledger};
+use address_ledger::Ledger;
 use image::clear;
-use refusal::Verdict;
+use refusal::Refusal;
 use state_image::put_ledger;
 
+// Kept: the C interface has a verdict as a number, 0 or that of the refusal, and the results in lent bytes.
 // A ledger as a result.
-pub(crate) fn store_ledger(verdict: Verdict, ledger: Ledger, out: &mut [u8]) -> u32
+pub(crate) fn store_ledger(verdict: Result<(), Refusal>, ledger: Ledger, out: &mut [u8]) -> u32
     requires { length out.old ≡ 16 }
     ensures number { result ≡ verdict_number verdict }
     ensures out { out.new ≡ on_accept verdict (replicate 16 0) (ledger_image.put ledger) }
 {
     match verdict {
-        Verdict::Accepted => {
+        Ok(()) => {
             put_ledger(out, ledger);
             0
         }
-        Verdict::Refused(why) => {
+        Err(why) => {
             clear(out);
             why.number() as u32
         }
@@ -30,7 +31,7 @@ pub(crate) fn store_ledger(verdict: Verdict, ledger: Ledger, out: &mut [u8]) -> 
 
 // The ledger after a call, and the address that it answered.
 pub(crate) fn store_address(
-    answer: AddressAnswer,
+    answer: Result<u16, Refusal>,
     ledger: Ledger,
     image: &mut [u8],
     address: &mut u16,
@@ -41,12 +42,12 @@ pub(crate) fn store_address(
     ensures address { address.new ≡ on_accept (address_verdict answer) 0 (address_value answer) }
 {
     match answer {
-        AddressAnswer::Address(granted) => {
+        Ok(granted) => {
             put_ledger(image, ledger);
             *address = granted;
             0
         }
-        AddressAnswer::Refused(why) => {
+        Err(why) => {
             *address = 0;
             why.number() as u32
         }

@@ -6,6 +6,7 @@ pub mod Table
 pub mod TableLemmas
 pub mod Every
 pub mod Filling
+pub mod FromFn
 pub mod Writing
 pub mod Same
 pub mod Prefix

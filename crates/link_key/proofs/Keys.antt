@@ -1,4 +1,5 @@
 -- Laws of keys: two that agree are equal, and a key that covers a frame has a listed usage.
+use Rattle.std.specs.Prelude.{Ok, Err}
 use Prim.Native.Nat.{ℕ, ◌≤◌}
 use native.Mathlib.Omega.{arith}
 use mathlib.Core.Path.{◌≡◌, refl}
@@ -14,8 +15,6 @@ use Rattle.link_key.specs.AdditionalInfo.{additional_info_bytes}
 use Rattle.link_key.specs.Key.{key_with_additional_info, valid_key, same_key, same_secret, covers, coverage_of, coverage_says}
 use Rattle.link_key.specs.declared.Key.{Key}
 use Rattle.link_key.specs.declared.additional_info.AdditionalInfo.{AdditionalInfo}
-use Rattle.link_key.specs.declared.usage.Coverage.TheVariants.{Covered, Refused}
-use Rattle.link_key.specs.declared.usage.Entry.TheVariants as entry
 use Rattle.link_key.specs.declared.usage.Usage.{Usage}
 use Rattle.link_key.specs.declared.usage.Family.{Family}
 use Rattle.link_key.specs.declared.usage.Family.TheVariants.{K1K2Encrypted, K1K2, K1, K2, K2Encrypted}
@@ -101,12 +100,12 @@ pub covers-listed : (k : Key) (type : ℕ) → covers k type ≡ true → k.usag
 unfolding covers
 covers-listed k type e = leb-true _ 14 (both_left (listed k.usage) (family_covers (family_of k.usage) type) e)
 
-pub coverage-covered : (k : Key) (type : ℕ) → type ≤ 1 → k.usage ≤ 14 → coverage_of k type ≡ Covered (covers k type)
+pub coverage-covered : (k : Key) (type : ℕ) → type ≤ 1 → k.usage ≤ 14 → coverage_of k type ≡ Ok (covers k type)
 unfolding coverage_of
 coverage-covered k type h u = rw (le-leb type 1 h, le-leb k.usage 14 u)
 
 -- the answers in document 01's terms
-choose-entry : (b : Bool) (u : Usage) → entry_says (cond b (entry.Listed u) (entry.Refused Range)) ≡ cond b (0, some u) (13, none)
+choose-entry : (b : Bool) (u : Usage) → entry_says (cond b (Ok u) (Err Range)) ≡ cond b (0, some u) (13, none)
 choose-entry true u = refl
 choose-entry false u = refl
 
@@ -114,7 +113,7 @@ pub entry-says : (usage : ℕ) → entry_says (entry_at usage) ≡ cond (listed 
 unfolding entry_at
 entry-says usage = choose-entry (listed usage) (usage_of usage)
 
-choose-coverage : (b c : Bool) → coverage_says (cond b (Covered c) (Refused Range)) ≡ cond b (0, some c) (13, none)
+choose-coverage : (b c : Bool) → coverage_says (cond b (Ok c) (Err Range)) ≡ cond b (0, some c) (13, none)
 choose-coverage true c = refl
 choose-coverage false c = refl
 

@@ -1,3 +1,4 @@
 pub mod Same
 pub mod Infos
 pub mod Keys
+pub mod Equal

@@ -1,4 +1,3 @@
-pub mod Places
 pub mod Lists
 pub mod KeySets
 mod Flags

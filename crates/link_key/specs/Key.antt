@@ -1,17 +1,17 @@
 -- A link-layer key: its limits, when two are equal, and which frames it covers.
-use Rattle.std.specs.Prelude.{ℕ, Bool, true, false, cond, ◌&&◌, List, leb, eqb, length, replicate}
+use Rattle.refusal.specs.declared.Refusal.{Refusal}
+use Rattle.std.specs.Prelude.{ℕ, Bool, cond, ◌&&◌, List, leb, eqb, length, replicate, Result, Ok, Err}
 use Rattle.std.proofs.Math.Option.{Option, none, some}
+use Rattle.std.specs.declared.option.Option.{Option as Found}
+use Rattle.std.specs.declared.option.Option.TheVariants.{None, Some}
 use Rattle.refusal.specs.Refusal.{number_of}
 use Rattle.refusal.specs.declared.Refusal.TheVariants.{Range}
 use Rattle.lemmas.specs.lists.Same.{same}
 use Rattle.link_key.specs.AdditionalInfo.{additional_info_bytes, no_additional_info}
 use Rattle.link_key.specs.usage.Usage.{family_of, family_covers, listed, known_type}
 use Rattle.link_key.specs.declared.Key.{Key}
-use Rattle.link_key.specs.declared.FoundKey.{FoundKey}
 use Rattle.link_key.specs.declared.additional_info.AdditionalInfo.{AdditionalInfo}
 use Rattle.link_key.specs.declared.additional_info.AdditionalInfo.TheVariants as info
-use Rattle.link_key.specs.declared.usage.Coverage.{Coverage}
-use Rattle.link_key.specs.declared.usage.Coverage.TheVariants as coverage
 
 -- the one place that makes a key
 abbrev pub key_with_additional_info : ℕ → ℕ → List ℕ → AdditionalInfo → Key
@@ -25,10 +25,10 @@ key_of identifier usage value = key_with_additional_info identifier usage value 
 abbrev pub no_key : Key
 no_key = key_of 0 0 (replicate 16 0)
 
--- a key that was looked for
-abbrev pub found_key : Option Key → FoundKey
-found_key none = record { found = false; key = no_key }
-found_key (some k) = record { found = true; key = k }
+-- a key that was looked for, as code has it
+abbrev pub found_key : Option Key → Found Key
+found_key none = None
+found_key (some k) = Some k
 
 -- identifier 1 to 255, usage 0 to 14, value 16 bytes
 unfoldable pub valid_key : Key → Bool
@@ -55,10 +55,10 @@ unfoldable pub covers : Key → ℕ → Bool
 covers k type = (listed k.usage && family_covers (family_of k.usage) type)
 
 -- the answer to the question whether it does
-unfoldable pub coverage_of : Key → ℕ → Coverage
-coverage_of k type = cond (known_type type && listed k.usage) (coverage.Covered (covers k type)) (coverage.Refused Range)
+unfoldable pub coverage_of : Key → ℕ → Result Bool Refusal
+coverage_of k type = cond (known_type type && listed k.usage) (Ok (covers k type)) (Err Range)
 
 -- the answer in document 01's terms: the refusal's number, 0 where there is none, and whether it covers, none where it is refused
-abbrev pub coverage_says : Coverage → ℕ × Option Bool
-coverage_says (coverage.Refused why) = (number_of why, none)
-coverage_says (coverage.Covered answer) = (0, some answer)
+abbrev pub coverage_says : Result Bool Refusal → ℕ × Option Bool
+coverage_says (Err why) = (number_of why, none)
+coverage_says (Ok answer) = (0, some answer)

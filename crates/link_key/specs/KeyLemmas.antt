@@ -1,14 +1,15 @@
 -- Lemmas: nothing here has to be believed.
 -- What a search for a key gave.
-use Rattle.std.specs.Prelude.{◌≡◌, refl, true, false}
+use Rattle.std.specs.Prelude.{◌≡◌, refl}
+use Rattle.std.specs.declared.option.Option.TheVariants.{None, Some}
 use Rattle.std.proofs.Math.Option.{Option, none, some}
 use Rattle.link_key.specs.Key.{found_key}
 use Rattle.link_key.specs.declared.Key.{Key}
 
-pub found_some : (o : Option Key) → (found_key o).found ≡ true → o ≡ some (found_key o).key
+pub found_some : (o : Option Key) {k : Key} → found_key o ≡ Some k → o ≡ some k
 found_some none e = cc
-found_some (some k) e = refl
+found_some (some l) e = cc
 
-pub found_none : (o : Option Key) → (found_key o).found ≡ false → o ≡ none
+pub found_none : (o : Option Key) → found_key o ≡ None → o ≡ none
 found_none none e = refl
 found_none (some k) e = cc

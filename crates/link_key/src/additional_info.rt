@@ -1,12 +1,9 @@
 // Additional information of a key (RFC 9031): the key source that a frame names beside the key index.
 ghost use Rattle.std.specs.Prelude.{◌≡◌};
-ghost use Rattle.lemmas.specs.lists.Same.{same};
-ghost use Rattle.link_key.specs.AdditionalInfo.{additional_info_bytes, padded_bytes};
-
-use byte_io::same_bytes;
+ghost use Rattle.link_key.specs.AdditionalInfo.{padded_bytes};
 
 // None, 4 bytes (key identification mode 2) or 8 bytes (mode 3). There is no other value, so nothing to refuse.
-#[derive(Clone, Copy)]
+#[derive(Clone, Copy, PartialEq, Eq)]
 pub enum AdditionalInfo {
     Absent,
     Four(u8, u8, u8, u8),
@@ -14,6 +11,7 @@ pub enum AdditionalInfo {
 }
 
 // The first `len` bytes, and zeros after them.
+// Kept: the bytes are fields of an enum, so there is no slice of them to lend, and without a heap no Vec to return.
 #[derive(Clone, Copy)]
 pub struct PaddedBytes {
     pub len: usize,
@@ -38,17 +36,4 @@ pub fn additional_info_bytes(info: AdditionalInfo) -> PaddedBytes
             bytes: [a, b, c, d, e, f, g, h],
         },
     }
-}
-
-// Whether two keys' additional information agrees: both have none, or both have the same bytes.
-pub(crate) fn same_additional_info(a: AdditionalInfo, b: AdditionalInfo) -> bool
-    ensures { result ≡ same (additional_info_bytes a) (additional_info_bytes b) }
-{
-    let x = additional_info_bytes(a);
-    let y = additional_info_bytes(b);
-    let mine = x.bytes;
-    let n = x.len;
-    let theirs = y.bytes;
-    let m = y.len;
-    same_bytes(&mine[..n], &theirs[..m])
 }

@@ -10,13 +10,11 @@ ghost use Rattle.link_key.specs.Key.{key_with_additional_info, key_of, no_key, v
 ghost use Rattle.link_key.specs.Key.{has_no_additional_info, same_key, same_secret, covers, coverage_of};
 ghost use Rattle.link_key.specs.Laws.{SameKeyLaws};
 
-use crate::usage::{Coverage, Entry, entry_at};
-pub(crate) use additional_info::same_additional_info;
+use crate::usage::entry_at;
 pub use additional_info::{AdditionalInfo, PaddedBytes, additional_info_bytes};
-use byte_io::same_bytes;
 use refusal::Refusal;
 
-#[derive(Clone, Copy)]
+#[derive(Clone, Copy, PartialEq, Eq)]
 pub struct Key {
     // The key index that frames carry.
     pub identifier: u8,
@@ -25,13 +23,6 @@ pub struct Key {
     pub value: [u8; 16],
     // Additional information (RFC 9031); a key of draft 004 has none.
     pub info: AdditionalInfo,
-}
-
-// What a search for a key gives. The key is all zero where none was found.
-#[derive(Clone, Copy)]
-pub struct FoundKey {
-    pub found: bool,
-    pub key: Key,
 }
 
 // The one place that makes a key.
@@ -62,83 +53,55 @@ pub fn no_key() -> Key
 
 impl Key {
     // Whether identifier and usage are within document 01's limits; the value has 16 bytes by its type.
+    #[tactic(auto, unfolding(crate::specs::Key::valid_key))]
     pub fn valid(self) -> bool
         ensures { result ≡ valid_key self }
     {
-        if self.identifier == 0 {
-            return false;
-        }
-        self.usage <= 14
+        self.identifier != 0 && self.usage <= 14
     }
 
     // Whether the key has no additional information, as draft 004 wants it.
+    #[tactic(auto, unfolding(crate::specs::Key::has_no_additional_info))]
     pub fn has_no_additional_info(self) -> bool
         ensures { result ≡ has_no_additional_info self }
     {
-        let info = self.info;
-        match info {
-            AdditionalInfo::Absent => true,
-            AdditionalInfo::Four(_, _, _, _) => false,
-            AdditionalInfo::Eight(_, _, _, _, _, _, _, _) => false,
-        }
+        matches!(self.info, AdditionalInfo::Absent)
     }
 
     // Whether the key covers the frame type. A key whose usage is not listed covers none.
+    #[tactic(auto, unfolding(crate::specs::Key::covers, crate::specs::usage::Usage::entry_at, crate::specs::usage::Usage::usage_of))]
     pub fn covers(self, frame_type: u8) -> bool
         ensures { result ≡ covers self frame_type }
     {
-        match entry_at(self.usage) {
-            Entry::Refused(_) => false,
-            Entry::Listed(usage) => {
-                let family = usage.family;
-                family.covers_type(frame_type)
-            }
-        }
+        entry_at(self.usage).is_ok_and(|usage| usage.family.covers_type(frame_type))
     }
 
     // The same question, with RANGE where the frame type is unknown or the key's usage is not listed.
-    pub fn coverage(self, frame_type: u8) -> Coverage
+    #[tactic(auto, unfolding(crate::specs::Key::coverage_of, crate::specs::usage::Usage::entry_at))]
+    pub fn coverage(self, frame_type: u8) -> Result<bool, Refusal>
         ensures { result ≡ coverage_of self frame_type }
     {
         if 1 < frame_type {
-            return Coverage::Refused(Refusal::Range);
+            return Err(Refusal::Range);
         }
-        if 14 < self.usage {
-            return Coverage::Refused(Refusal::Range);
-        }
-        Coverage::Covered(self.covers(frame_type))
+        entry_at(self.usage)?;
+        Ok(self.covers(frame_type))
     }
 
     // Whether two keys agree in identifier and value, whatever their usage and additional information.
+    #[tactic(auto, using(crate::proofs::Equal::bytes), unfolding(crate::specs::Key::same_secret))]
     pub fn same_secret(self, other: Key) -> bool
         ensures { result ≡ same_secret self other }
     {
-        if self.identifier != other.identifier {
-            return false;
-        }
-        let mine = self.value;
-        let theirs = other.value;
-        same_bytes(&mine, &theirs)
+        self.identifier == other.identifier && self.value == other.value
     }
 
     // Whether two keys agree in identifier, usage, value and additional information.
+    #[tactic(auto, using(crate::proofs::Equal::keys))]
     pub fn same_key(self, other: Key) -> bool
         ensures { result ≡ same_key self other }
     {
-        if self.identifier != other.identifier {
-            return false;
-        }
-        if self.usage != other.usage {
-            return false;
-        }
-        let mine = self.value;
-        let theirs = other.value;
-        if !same_bytes(&mine, &theirs) {
-            return false;
-        }
-        let info = self.info;
-        let other_info = other.info;
-        same_additional_info(info, other_info)
+        self == other
     }
 }
 

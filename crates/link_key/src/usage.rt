@@ -23,20 +23,7 @@ pub struct Usage {
     pub mic: u8,
 }
 
-// The entry of a usage number.
-#[derive(Clone, Copy)]
-pub enum Entry {
-    Refused(Refusal),
-    Listed(Usage),
-}
-
-// Whether a key covers a frame type.
-#[derive(Clone, Copy)]
-pub enum Coverage {
-    Refused(Refusal),
-    Covered(bool),
-}
-
+// Kept: document 01 asks for the usage list as a constant table, read by number.
 const USAGES: [Usage; 15] = [
     Usage {
         family: Family::K1K2Encrypted,
@@ -101,13 +88,13 @@ const USAGES: [Usage; 15] = [
 ];
 
 // The entry of the usage list with this number; RANGE where there is none.
-pub fn entry_at(usage: u8) -> Entry
+pub fn entry_at(usage: u8) -> Result<Usage, Refusal>
     ensures { result ≡ entry_at usage }
 {
     if 14 < usage {
-        return Entry::Refused(Refusal::Range);
+        return Err(Refusal::Range);
     }
-    Entry::Listed(USAGES[usage as usize])
+    Ok(USAGES[usage as usize])
 }
 
 impl Family {
@@ -116,11 +103,9 @@ impl Family {
         ensures { result ≡ family_covers self frame_type }
     {
         match self {
-            Family::K1K2Encrypted => frame_type <= 1,
-            Family::K1K2 => frame_type <= 1,
+            Family::K1K2Encrypted | Family::K1K2 => frame_type <= 1,
             Family::K1 => frame_type == 0,
-            Family::K2 => frame_type == 1,
-            Family::K2Encrypted => frame_type == 1,
+            Family::K2 | Family::K2Encrypted => frame_type == 1,
         }
     }
 }

@@ -1,20 +1,24 @@
 -- The place of the first key that serves says which it is: the key and the counter of a slot are those at its place, one of the eight.
 use Prim.Native.Nat.{ℕ, suc, ◌+◌, ◌-◌, ◌≤◌, ◌<◌}
 use native.Mathlib.Omega.{arith}
-use mathlib.Core.Path.{◌≡◌, refl, ◌∙◌, ap}
+use mathlib.Core.Path.{◌≡◌, refl, sym, ◌∙◌, ap}
 use mathlib.Core.Bool.{not}
 use mathlib.Core.List.{List, [], ◌∷◌, Memᴰ}
 use mathlib.Core.Option.{Option, none, some}
 use borrow.Author.Tests.{eqb-false, not-true}
 use lib.ListN.{length, take, get_or, length-take}
 use lib.Seq.{get_or-take}
-use Rattle.link_key.specs.Key.{covers}
+use Rattle.link_key.specs.Key.{covers, key_of}
+use Rattle.std.specs.declared.option.Option.TheVariants.{None, Some}
 use Rattle.link_key.specs.declared.Key.{Key}
 use Rattle.lemmas.specs.logic.Tests.{both_right}
 use Rattle.link_key.proofs.set.Lists.{first-is}
 use Rattle.link_key_counters.specs.Counters.{Slot, slot, slots_from, slots_of, last_counter, is_used_up, serves, first_serving, place_of}
 use Rattle.link_key_counters.specs.declared.CountedSet.{CountedSet}
-use Rattle.link_key.proofs.set.Places.{past}
+
+-- what a read past the end would give
+abbrev pub past : Key
+past = key_of 0 0 []
 
 -- what stands at a place of a set
 abbrev pub standing : CountedSet → ℕ → Slot
@@ -45,23 +49,24 @@ module _ (type : ℕ) (s : CountedSet) (eight : length s.set.keys ≡ 8) where
       let key = (rw from_start at there.2) ∙ get_or-take n keys x.place past held in
       (few, rw (← key, ← there.3) refl)
 
-  found_at : (o : Option Slot) → first_serving type s ≡ o → place_of o < 8 → first_serving type s ≡ some (standing s (place_of o))
-  found_at none e h = absurd (omega arith)
-  found_at (some x) e h = e ∙ ap some (first-stands x e).1
+  -- the place that code answers is the one of the first key that serves
+  is-there : (o : Option Slot) (place : ℕ) → first_serving type s ≡ o → place_of o ≡ Some place → o ≡ some (standing s place)
+  is-there none place e h = cc
+  is-there (some x) place e h = let p : x.place ≡ place = cc in ap some ((first-stands x e).1 ∙ ap (standing s) p)
 
-  none-at : (o : Option Slot) → first_serving type s ≡ o → 8 ≤ place_of o → first_serving type s ≡ none
-  none-at none e h = e
-  none-at (some x) e h = absurd (omega (arith, (first-stands x e).0))
+  is_none : (o : Option Slot) → place_of o ≡ None → o ≡ none
+  is_none none h = refl
+  is_none (some x) h = cc
 
-  module _ (place : ℕ) (e : place ≡ place_of (first_serving type s)) where
-    pub is-there : place < 8 → first_serving type s ≡ some (standing s place)
-    is-there h = rw e (found_at (first_serving type s) refl (rw e at h))
+  pub none-serves : None ≡ place_of (first_serving type s) → first_serving type s ≡ none
+  none-serves e = is_none (first_serving type s) (sym e)
 
-    pub is_none : 8 ≤ place → first_serving type s ≡ none
-    is_none h = none-at (first_serving type s) refl (rw e at h)
+  module _ (place : ℕ) (e : Some place ≡ place_of (first_serving type s)) where
+    pub serving-there : first_serving type s ≡ some (standing s place)
+    serving-there = is-there (first_serving type s) place refl (sym e)
 
-    pub unused : place < 8 → get_or s.counters place 0 ≡ 4294967295 → ⊥
+    pub unused : get_or s.counters place 0 ≡ 4294967295 → ⊥
     unused h =
-        let serving = (first-is (serves type) (slots_of s) (standing s place) (is-there h)).1 in
+        let serving = (first-is (serves type) (slots_of s) (standing s place) serving-there).1 in
         let x = standing s place in
-        eqb-false x.counter last_counter (not-true (is_used_up x) (both_right (covers x.key type) (not (is_used_up x)) serving))
+        eqb-false x.counter last_counter (not-true (is_used_up x) (both_right (covers x.key type) (not (is_used_up x)) serving)) h

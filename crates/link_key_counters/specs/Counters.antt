@@ -1,6 +1,8 @@
 -- Key sets whose keys have frame counters: which key a frame is sent with, and which counters a set that replaces another one keeps.
 use Rattle.std.specs.Prelude.{ℕ, ◌+◌, ◌-◌, Bool, true, false, not, ◌&&◌, List, [], ◌∷◌, ◌++◌, map, eqb, length, get_or, set, replicate}
 use Rattle.std.proofs.Math.Option.{Option, none, some}
+use Rattle.std.specs.declared.option.Option.{Option as Found}
+use Rattle.std.specs.declared.option.Option.TheVariants.{None, Some}
 use Rattle.link_key.specs.Key.{no_key, same_secret, covers}
 use Rattle.link_key.specs.declared.Key.{Key}
 use Rattle.link_key.specs.set.Lists.{first_of}
@@ -51,10 +53,10 @@ serves type x = (covers x.key type && not (is_used_up x))
 abbrev pub first_serving : ℕ → CountedSet → Option Slot
 first_serving type s = first_of (serves type) (slots_of s)
 
--- the place of a key that was found; 8, which is no place, where none was
-abbrev pub place_of : Option Slot → ℕ
-place_of none = 8
-place_of (some x) = x.place
+-- the place of a key that was found, as code has it
+abbrev pub place_of : Option Slot → Found ℕ
+place_of none = None
+place_of (some x) = Some x.place
 
 abbrev pub raised : CountedSet → Slot → CountedSet
 raised s x = counted_set s.set (set s.counters x.place (x.counter + 1))

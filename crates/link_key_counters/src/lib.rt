@@ -3,7 +3,7 @@
 
 pub mod history;
 
-ghost use Rattle.std.specs.Prelude.{◌≡◌};
+ghost use Rattle.std.specs.Prelude.{◌≡◌, ℕ, ◌<◌, IfSome};
 ghost use Rattle.link_key_counters.specs.Counters.{with_zero_counters, no_counted, first_serving, place_of};
 ghost use Rattle.link_key_counters.specs.Counters.{take_counter, kept_counter, inherit_counters};
 ghost use Rattle.link_key_counters.specs.CounterLaws.{CounterLaws};
@@ -16,10 +16,12 @@ use link_key::{Key, no_key};
 pub struct CountedSet {
     pub set: KeySet,
     // The next counter of the key at the same place of the set.
+    // Kept: counters beside the set, not in its keys: sets arrive without counters, and the theorem KeptLaws sets `set` against `set`.
     pub counters: [u32; 8],
 }
 
 // What a frame is sent with, and the set after it. Where no key serves, the key is all zero, the counter 0, and the set as it was.
+// Kept: the theorems `spent-from` and `spends` of CounterLaws speak of `found` and `key`, and `taken_counter_on` of all four fields.
 #[derive(Clone, Copy)]
 pub struct TakenCounter {
     pub found: bool,
@@ -46,23 +48,18 @@ pub fn none_counted() -> CountedSet
 }
 
 impl CountedSet {
-    // The place of the first key that covers the frame type and is not used up; 8 where there is none.
-    fn serving(self, frame_type: u8) -> usize
-        ensures { result ≡ place_of (first_serving frame_type self) }
+    // The place of the first key that covers the frame type and is not used up.
+    fn serving(self, frame_type: u8) -> Option<usize>
+        ensures place { result ≡ place_of (first_serving frame_type self) }
+        ensures few { IfSome result (λ (i : ℕ). i < 8) }
     {
-        let n = self.set.len();
-        let keys = self.set.keys;
-        let counters = self.counters;
-        let mut i: usize = 0;
-        while i < n {
-            let key = keys[i];
-            let counter = counters[i];
+        for (i, key) in self.set.as_slice().iter().enumerate() {
+            let counter = self.counters[i];
             if counter != 4294967295 && key.covers(frame_type) {
-                return i;
+                return Some(i);
             }
-            i += 1;
         }
-        8
+        None
     }
 
     // The first key that covers the frame type and is not used up, its counter, and the set with that counter one higher.
@@ -70,17 +67,16 @@ impl CountedSet {
     pub fn take_counter(self, frame_type: u8) -> TakenCounter
         ensures { result ≡ take_counter frame_type self }
     {
-        let place = self.serving(frame_type);
         let set = self.set;
-        let keys = self.set.keys;
         let mut counters = self.counters;
+        let mut found = false;
         let mut key = no_key();
         let mut counter: u32 = 0;
-        let found = place < 8;
-        if place < 8 {
-            key = keys[place];
-            counter = counters[place];
-            counters[place] = counter + 1;
+        if let Some(i) = self.serving(frame_type) {
+            found = true;
+            key = set.keys[i];
+            counter = counters[i];
+            counters[i] = counter + 1;
         }
         TakenCounter {
             set: CountedSet { set, counters },
@@ -94,16 +90,10 @@ impl CountedSet {
     fn kept_counter(self, key: Key) -> u32
         ensures { result ≡ kept_counter self key }
     {
-        let n = self.set.len();
-        let keys = self.set.keys;
-        let counters = self.counters;
-        let mut i: usize = 0;
-        while i < n {
-            let held = keys[i];
+        for (i, held) in self.set.as_slice().iter().enumerate() {
             if held.same_secret(key) {
-                return counters[i];
+                return self.counters[i];
             }
-            i += 1;
         }
         0
     }
@@ -112,14 +102,9 @@ impl CountedSet {
     pub fn inherit_counters(self, set: KeySet) -> CountedSet
         ensures { result ≡ inherit_counters self set }
     {
-        let n = set.len();
-        let keys = set.keys;
         let mut counters = [0u32; 8];
-        let mut i: usize = 0;
-        while i < n {
-            let key = keys[i];
-            counters[i] = self.kept_counter(key);
-            i += 1;
+        for (i, key) in set.as_slice().iter().enumerate() {
+            counters[i] = self.kept_counter(*key);
         }
         CountedSet { set, counters }
     }

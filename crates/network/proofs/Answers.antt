@@ -1,9 +1,10 @@
 -- Each clause of a turn goes by the answers of its sender and its receiver;
 -- the receiver's answer to the report is what `AnswersSay` says of it.
+use Rattle.std.specs.Prelude.{Result, Ok, Err}
+use Rattle.refusal.specs.declared.Refusal.{Refusal}
 use Prim.Native.Nat.{ℕ}
 use mathlib.Core.Path.{◌≡◌, refl, sym, ◌∙◌, ap}
 use mathlib.Core.Bool.{Bool, true, false, cond, not, ◌&&◌}
-use Rattle.refusal.specs.declared.Verdict.TheVariants.{Accepted}
 use Rattle.lemmas.specs.logic.Tests.{never}
 use Rattle.link_key.specs.Key.{same_key}
 use Rattle.link_key.specs.set.KeySet.{has}
@@ -20,25 +21,25 @@ use Rattle.network_turn.specs.declared.answer.Answer.TheVariants.{Failed}
 
 -- an answer to the report that is not refused: the active set kept, h, or switched
 none-refused :
-    (c : Change) (h : Bool) → sets.has_switched c ≡ not h → sets.has_kept c ≡ h →
+    (c : Result Change Refusal) (h : Bool) → sets.has_switched c ≡ not h → sets.has_kept c ≡ h →
     (answer_number (answer_of c) ≡ 0) × (was_verified (answer_of c) ≡ true)
-none-refused (change.Refused j) h p q = never (not h) (ap not (sym q)) (sym p)
-none-refused change.Switched h p q = (refl, refl)
-none-refused change.Kept h p q = (refl, refl)
+none-refused (Err j) h p q = never (not h) (ap not (sym q)) (sym p)
+none-refused (Ok change.Switched) h p q = (refl, refl)
+none-refused (Ok change.Kept) h p q = (refl, refl)
 
-same-switched : (c : Change) → has_switched (answer_of c) ≡ sets.has_switched c
-same-switched (change.Refused j) = refl
-same-switched change.Switched = refl
-same-switched change.Kept = refl
+same-switched : (c : Result Change Refusal) → has_switched (answer_of c) ≡ sets.has_switched c
+same-switched (Err j) = refl
+same-switched (Ok change.Switched) = refl
+same-switched (Ok change.Kept) = refl
 
-module _ (A : AnswersSay) (a b : Node) (type : ℕ) (e : (send a type).verdict ≡ Accepted) (f : (found a b type).verdict ≡ Accepted) where
+module _ (A : AnswersSay) (a b : Node) (type : ℕ) (e : (send a type).verdict ≡ Ok tt) (f : (found a b type).verdict ≡ Ok tt) where
   abbrev id : ℕ
   id = (sent_key a b type).identifier
 
   abbrev active : Bool
   active = has id (active_of b)
 
-  abbrev told-change : Change
+  abbrev told-change : Result Change Refusal
   told-change = (verified b type id).change
 
   has-switched : sets.has_switched told-change ≡ not active
@@ -50,15 +51,15 @@ module _ (A : AnswersSay) (a b : Node) (type : ℕ) (e : (send a type).verdict �
   abbrev equal : Bool
   equal = same_key (sent_key a b type) (found a b type).key
 
-  turn_is : turn a b type ≡ cond equal (told (after_send a type) b (verified b type id)) (turned (after_send a type) b Failed)
+  turn_is : turn a b type ≡ cond equal (told (after_send a type) b (verified b type id)) (turned (after_send a type) b (Ok Failed))
   unfolding turn judged
   turn_is = rw (e, f)
 
   by-keys :
       (x : Bool) →
-      (answer_number (cond x (told (after_send a type) b (verified b type id)) (turned (after_send a type) b Failed)).answer ≡ 0)
-      × (was_verified (cond x (told (after_send a type) b (verified b type id)) (turned (after_send a type) b Failed)).answer ≡ x)
-      × (has_switched (cond x (told (after_send a type) b (verified b type id)) (turned (after_send a type) b Failed)).answer
+      (answer_number (cond x (told (after_send a type) b (verified b type id)) (turned (after_send a type) b (Ok Failed))).answer ≡ 0)
+      × (was_verified (cond x (told (after_send a type) b (verified b type id)) (turned (after_send a type) b (Ok Failed))).answer ≡ x)
+      × (has_switched (cond x (told (after_send a type) b (verified b type id)) (turned (after_send a type) b (Ok Failed))).answer
       ≡ (x && not active))
   by-keys false = (refl, refl, refl)
   by-keys true =

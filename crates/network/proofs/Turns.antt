@@ -1,13 +1,13 @@
 -- What a turn does to its two nodes, by the node's laws: the sender keeps its keys; the receiver keeps its keys, or its pending set becomes
 -- active by a pending key with the identifier of the key that was sent.
+use Rattle.std.specs.Prelude.{Result, Ok, Err}
+use Rattle.refusal.specs.declared.Refusal.{Refusal}
 use Prim.Native.Nat.{ℕ}
 use mathlib.Core.Path.{◌≡◌, refl}
 use mathlib.Core.Bool.{Bool, true, false, cond}
 use mathlib.Core.Logic.{◌⊎◌, inl, inr, ⊎_elim}
 use mathlib.Core.List.{Memᴰ}
-use Rattle.refusal.specs.declared.Verdict.{Verdict}
-use Rattle.refusal.specs.declared.Verdict.TheVariants as verdict
-use Rattle.refusal.specs.declared.Verdict.TheVariants.{Accepted}
+use Rattle.refusal.specs.Verdict.{Verdict}
 use Rattle.link_key.specs.Key.{same_key}
 use Rattle.link_key.specs.declared.Key.{Key}
 use Rattle.node.specs.Node.{active_of, pending_of}
@@ -17,7 +17,7 @@ use Rattle.node_laws.specs.Laws.{KeysStay, Switched, Sends, Switching, NodeLaws,
 use Rattle.node.specs.declared.node.Node.{Node}
 use Rattle.network_turn.specs.Turn.{turned, told, judged, received, sent, turn}
 use Rattle.network_turn.specs.declared.answer.Answer.{Answer}
-use Rattle.network_turn.specs.declared.answer.Answer.TheVariants.{Refused, Failed}
+use Rattle.network_turn.specs.declared.answer.Answer.TheVariants.{Failed}
 use Rattle.network_turn.specs.declared.answer.TurnResult.{TurnResult}
 
 pub stay-self : (n : Node) → KeysStay n n
@@ -37,24 +37,24 @@ abbrev pub Receives : Node → Node → ℕ → Node → Type 0
 Receives a b type m = KeysStay b m ⊎ Moved a b type m
 
 -- a turn ends with the receiver as it was, or the send was answered and the receiver is told that the frame is verified
-module _ (a b : Node) (type : ℕ) (P : TurnResult → Type 0) (same : (x : Answer) → P (turned (after_send a type) b x))
-    (verifies : (send a type).verdict ≡ Accepted → P (told (after_send a type) b (verified b type (frame_id a type)))) where
-  at-radio : (e : (send a type).verdict ≡ Accepted) (l : Key) → P (judged (after_send a type) b type (send a type).key l)
+module _ (a b : Node) (type : ℕ) (P : TurnResult → Type 0) (same : (x : Result Answer Refusal) → P (turned (after_send a type) b x))
+    (verifies : (send a type).verdict ≡ Ok tt → P (told (after_send a type) b (verified b type (frame_id a type)))) where
+  at-radio : (e : (send a type).verdict ≡ Ok tt) (l : Key) → P (judged (after_send a type) b type (send a type).key l)
   unfolding judged
   at-radio e l = go (same_key (send a type).key l)
     where
-      go : (x : Bool) → P (cond x (told (after_send a type) b (verified b type (frame_id a type))) (turned (after_send a type) b Failed))
+      go : (x : Bool) → P (cond x (told (after_send a type) b (verified b type (frame_id a type))) (turned (after_send a type) b (Ok Failed)))
       go true = verifies e
-      go false = same Failed
+      go false = same (Ok Failed)
 
   at-receiver :
-      (e : (send a type).verdict ≡ Accepted) (v : Verdict) (l : Key) → P (received (after_send a type) b type (send a type).key v l)
-  at-receiver e (verdict.Refused k) l = same (Refused k)
-  at-receiver e verdict.Accepted l = at-radio e l
+      (e : (send a type).verdict ≡ Ok tt) (v : Verdict) (l : Key) → P (received (after_send a type) b type (send a type).key v l)
+  at-receiver e (Err k) l = same (Err k)
+  at-receiver e (Ok tt) l = at-radio e l
 
   at-sender : (v : Verdict) → (send a type).verdict ≡ v → P (sent (after_send a type) b type v (send a type).key)
-  at-sender (verdict.Refused k) e = same (Refused k)
-  at-sender verdict.Accepted e = at-receiver e (receive b type (frame_id a type)).verdict (receive b type (frame_id a type)).key
+  at-sender (Err k) e = same (Err k)
+  at-sender (Ok tt) e = at-receiver e (receive b type (frame_id a type)).verdict (receive b type (frame_id a type)).key
 
   pub turn-ends : P (turn a b type)
   unfolding turn
@@ -67,7 +67,7 @@ module _ (L : NodeLaws) (a b : Node) (type : ℕ) where
   pub receiver-either : Receives a b type (turn a b type).receiver
   receiver-either = turn-ends a b type (λ t. Receives a b type t.receiver) (λ _. inl (stay-self b)) told-either
     where
-      told-either : (send a type).verdict ≡ Accepted → Receives a b type (verified b type (frame_id a type)).node
+      told-either : (send a type).verdict ≡ Ok tt → Receives a b type (verified b type (frame_id a type)).node
       told-either e =
           ⊎_elim inl (λ s. inr (record { sends = L.send-from a type e; by = s.0; switched = s.1 }))
           (L.verified-either b type (frame_id a type))

@@ -1,6 +1,5 @@
 -- The claim beside demand 3 speaks of lists that demand 3 has not: the line of RekeyExample, with updates that are accepted.
-use Rattle.std.specs.Prelude.{ℕ, ◌≡◌, List, [], ◌∷◌, ◌++◌, replicate}
-use Rattle.refusal.specs.declared.Verdict.TheVariants.{Accepted}
+use Rattle.std.specs.Prelude.{ℕ, ◌≡◌, List, [], ◌∷◌, ◌++◌, replicate, Ok}
 use Rattle.cojp.specs.declared.disposition.Disposition.TheVariants.{Discarded}
 use Rattle.node.specs.Delivery.{deliver}
 use Rattle.node.specs.Node.{active_of, pending_of}
@@ -39,7 +38,7 @@ second_amid = round_amid ++ (worst ++ [])
 
 pub record AmidUpdatesExample : Type 0 where
   -- the update is accepted, its key set is not taken, and what was pending stays
-  pub clash-accepted : (deliver Update (node_at line 2) 13000 clashing).verdict ≡ Accepted
+  pub clash-accepted : (deliver Update (node_at line 2) 13000 clashing).verdict ≡ Ok tt
   pub clash-discarded : (deliver Update (node_at line 2) 13000 clashing).dispositions.keys ≡ Discarded
   pub still-pending : pending_of (node_at (run line first_amid) 2) ≡ new_keys
   -- such a list is none of demand 3's
@@ -52,7 +51,7 @@ pub record AmidUpdatesExample : Type 0 where
   pub linked : AllLinked line_links 1 second_amid
   pub rounds : Rounds line_links 1 2 second_amid
   -- the clashing update of the second list is accepted too
-  pub clash-accepted-after : (deliver Update (node_at (run taken_amid worst) 2) 21000 clashing).verdict ≡ Accepted
+  pub clash-accepted-after : (deliver Update (node_at (run taken_amid worst) 2) 21000 clashing).verdict ≡ Ok tt
   pub two-rounds-active : active_of (node_at (run taken_amid second_amid) 2) ≡ new_keys
   -- by the claim
   pub none-sends : NoneSendsUnder new_keys line first_amid

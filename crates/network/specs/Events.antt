@@ -1,8 +1,7 @@
 -- What happens in a network before and after a rekey: turns, and node calls.
-use Rattle.std.specs.Prelude.{ℕ, ◌<◌, ◌≡◌, length}
+use Rattle.std.specs.Prelude.{ℕ, ◌<◌, ◌≡◌, length, Ok, Err}
 use mathlib.Core.List.{List, [], ◌∷◌, Memᴰ}
 use Rattle.refusal.specs.declared.Refusal.{Refusal}
-use Rattle.refusal.specs.declared.Verdict.TheVariants.{Accepted, Refused}
 use Rattle.link_key.specs.declared.Key.{Key}
 use Rattle.node_laws.specs.Calls.{NodeCall, starting, polling, delivering, asking, sending, receiving, reporting, perform}
 use Rattle.node.specs.Frames.{send}
@@ -35,7 +34,7 @@ run net (e ∷ es) = run (step net e) es
 -- ---- which events there are
 pub record Refuses (n : Node) (c : NodeCall) : Type 0 where
   pub why : Refusal
-  pub refused : (perform c n).verdict ≡ Refused why
+  pub refused : (perform c n).verdict ≡ Err why
 
 -- starts and polls, refused or not, and updates and join answers that are refused
 abbrev pub Permitted : Node → NodeCall → Type 0
@@ -71,5 +70,5 @@ answers net (calling i c ∷ es) = answers (step net (calling i c)) es
 
 -- asked to send, the node answered with a key of the set
 pub record Under (ks : List Key) (a : KeyAnswer) : Type 0 where
-  pub accepted : a.verdict ≡ Accepted
+  pub accepted : a.verdict ≡ Ok tt
   pub member : Memᴰ a.key ks

@@ -8,7 +8,7 @@ use native.Mathlib.Decide.{ℕ_discrete}
 use native.Mathlib.Omega.{arith}
 use lib.ListN.{length, set, replicate, length-replicate}
 use Rattle.refusal.specs.Verdict.{verdict_number}
-use Rattle.refusal.specs.declared.Verdict.{Verdict}
+use Rattle.refusal.specs.Verdict.{Verdict}
 use Rattle.lemmas.specs.lists.Same as bytes
 use Rattle.lemmas.specs.lists.SameLemmas.{same-equal, same_refl}
 use Rattle.image.specs.Effects.{on_accept, result_bytes}

@@ -1,5 +1,7 @@
 -- A turn from C goes the way of the network's turn: each call answers as the node's own, and the keys that it hands back are equal exactly
 -- where their bytes are.
+use Rattle.std.specs.Prelude.{Result, Ok, Err}
+use Rattle.refusal.specs.declared.Refusal.{Refusal}
 use Prim.Native.Nat.{ℕ}
 use mathlib.Core.Path.{◌≡◌, refl, ap, sym, ◌∙◌, subst}
 use mathlib.Core.Bool.{Bool, true, false}
@@ -8,8 +10,7 @@ use native.Mathlib.Omega.{arith}
 use lib.ListN.{replicate}
 use Rattle.refusal.specs.Refusal.{Numbered}
 use Rattle.refusal.specs.Verdict.{verdict_number}
-use Rattle.refusal.specs.declared.Verdict.{Verdict}
-use Rattle.refusal.specs.declared.Verdict.TheVariants as verdict
+use Rattle.refusal.specs.Verdict.{Verdict}
 use Rattle.image.specs.Effects.{on_accept}
 use Rattle.key_image.specs.Laws.{KeyImages}
 use Rattle.link_key.specs.Key.{same_key}
@@ -41,29 +42,29 @@ pub record Came (t : TurnResult) (r c : ℕ) (s' w' : List ℕ) : Type 0 where
   pub receiver : Holds t.receiver w'
 
 -- ---- what a verdict and a change come to
-verdict-accepted : Numbered → (v : Verdict) {r : ℕ} → r ≡ verdict_number v → r ≡ 0 → v ≡ verdict.Accepted
-verdict-accepted numbers verdict.Accepted e f = refl
-verdict-accepted numbers (verdict.Refused k) e f = absurd (let l = numbers.least k in let z = sym e ∙ f in omega (arith, l, z))
+verdict-accepted : Numbered → (v : Verdict) {r : ℕ} → r ≡ verdict_number v → r ≡ 0 → v ≡ Ok tt
+verdict-accepted numbers (Ok tt) e f = refl
+verdict-accepted numbers (Err k) e f = absurd (let l = numbers.least k in let z = sym e ∙ f in omega (arith, l, z))
 
-change-number : (h : Change) → verdict_number (change_verdict h) ≡ answer_number (answer_of h)
-change-number (change.Refused k) = refl
-change-number change.Switched = refl
-change-number change.Kept = refl
+change-number : (h : Result Change Refusal) → verdict_number (change_verdict h) ≡ answer_number (answer_of h)
+change-number (Err k) = refl
+change-number (Ok change.Switched) = refl
+change-number (Ok change.Kept) = refl
 
-change-code : (h : Change) → value_of (change_object h) ≡ answer_code (answer_of h)
-change-code (change.Refused k) = refl
-change-code change.Switched = refl
-change-code change.Kept = refl
+change-code : (h : Result Change Refusal) → value_of (change_object h) ≡ answer_code (answer_of h)
+change-code (Err k) = refl
+change-code (Ok change.Switched) = refl
+change-code (Ok change.Kept) = refl
 
 module _ (a m : Node) (type : ℕ) {s' w : List ℕ} (sender : Holds a s') (receiver : Holds m w) where
   -- a refusal ends the turn
   send-refused : (v : Verdict) (k : Key) {r : ℕ} → r ≡ verdict_number v → (r ≡ 0 → ⊥) → Came (sent a m type v k) r 0 s' w
-  send-refused verdict.Accepted k e f = absurd (f e)
-  send-refused (verdict.Refused why) k e f = record { number = e; code = refl; sender = sender; receiver = receiver }
+  send-refused (Ok tt) k e f = absurd (f e)
+  send-refused (Err why) k e f = record { number = e; code = refl; sender = sender; receiver = receiver }
 
   receive-refused : (v : Verdict) (k l : Key) {r : ℕ} → r ≡ verdict_number v → (r ≡ 0 → ⊥) → Came (received a m type k v l) r 0 s' w
-  receive-refused verdict.Accepted k l e f = absurd (f e)
-  receive-refused (verdict.Refused why) k l e f = record { number = e; code = refl; sender = sender; receiver = receiver }
+  receive-refused (Ok tt) k l e f = absurd (f e)
+  receive-refused (Err why) k l e f = record { number = e; code = refl; sender = sender; receiver = receiver }
 
   -- the frame failed
   judged-failed : (k l : Key) (b : Bool) → same_key k l ≡ b → (b ≡ true → ⊥) → Came (judged a m type k l) 0 0 s' w
@@ -84,7 +85,7 @@ module _ (a m : Node) (type : ℕ) {s' w : List ℕ} (sender : Holds a s') (rece
 
 -- ---- the sender was asked and answered
 pub record Sent (n : Node) (type : ℕ) (a : NodeOutput) (s' : List ℕ) : Type 0 where
-  pub accepted : (send n type).verdict ≡ verdict.Accepted
+  pub accepted : (send n type).verdict ≡ Ok tt
   pub struct : a.struct ≡ frame_key_image.put ((send n type).key, send_counter n type)
   pub fits : frame_key_image.Fit ((send n type).key, send_counter n type)
   holds : Holds (after_send n type) s'
@@ -122,7 +123,7 @@ module _ (numbers : Numbered) (images : KeyImages) (same : SameKeyLaws) (law : N
 
   -- ---- so was the receiver
   record Received (b : NodeOutput) : Type 0 where
-    accepted : (receive m type key.identifier).verdict ≡ verdict.Accepted
+    accepted : (receive m type key.identifier).verdict ≡ Ok tt
     struct : b.struct ≡ frame_key_image.put (found, 0)
     fits : frame_key_image.Fit (found, 0)
 

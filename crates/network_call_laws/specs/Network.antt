@@ -1,6 +1,7 @@
 -- A network whose nodes stand in structs and are driven by the calls of the library for C: turns and calls do to the structs what they do
 -- to the nodes. So what is promised of the network's runs, demand 3 above all, is promised of the structs.
-use Rattle.std.specs.Prelude.{ℕ, ◌<◌, true, List, [], map, ◌≡◌, length, get_or, set}
+use Rattle.std.specs.Prelude.{ℕ, ◌<◌, true, List, [], map, ◌≡◌, length, get_or, set, Result, Ok, Err}
+use Rattle.refusal.specs.declared.Refusal.{Refusal}
 use Rattle.image.specs.Part.{AllBytes, is_image}
 use Rattle.link_key.specs.Key.{same_key}
 use Rattle.link_key.specs.declared.Key.{Key}
@@ -11,7 +12,7 @@ use Rattle.network.specs.Events.{Event, turning, calling, step, run}
 use Rattle.network.specs.Network.{Network, node_at}
 use Rattle.network_turn.specs.Turn.{turn, answer_number}
 use Rattle.network_turn.specs.declared.answer.Answer as network
-use Rattle.network_turn.specs.declared.answer.Answer.TheVariants.{Refused, Failed, Kept, Switched}
+use Rattle.network_turn.specs.declared.answer.Answer.TheVariants.{Failed, Kept, Switched}
 use Rattle.network_turn.specs.declared.answer.TurnResult.{TurnResult}
 use Rattle.pothatch_laws.specs.Node.{NodeOutput, Called, told_of}
 use Rattle.pothatch_laws.specs.Runs.{Runs, answers}
@@ -53,11 +54,11 @@ pub data Did : Event → Structs → Answer → Structs → Type 0 where
 
 -- ---- the same events in the network
 -- the code of a turn's change, as of a report's: 0 where there is none
-abbrev pub answer_code : network.Answer → ℕ
-answer_code (Refused k) = 0
-answer_code Failed = 0
-answer_code Kept = 1
-answer_code Switched = 2
+abbrev pub answer_code : Result network.Answer Refusal → ℕ
+answer_code (Err k) = 0
+answer_code (Ok Failed) = 0
+answer_code (Ok Kept) = 1
+answer_code (Ok Switched) = 2
 
 abbrev pub of_turned : TurnResult → Answer
 of_turned t = of-turn (answer_number t.answer) (answer_code t.answer)

@@ -6,16 +6,16 @@ use refusal::Refusal;
 // then the receiver kept its active set or switched to the pending one.
 #[derive(Clone, Copy)]
 pub enum Answer {
-    Refused(Refusal),
     Failed,
     Kept,
     Switched,
 }
 
 // Both nodes as the turn left them.
+// Kept: the nodes count beside a refusal too (`TurnDemand1` of network).
 #[derive(Clone, Copy)]
 pub struct TurnResult {
     pub sender: Node,
     pub receiver: Node,
-    pub answer: Answer,
+    pub answer: Result<Answer, Refusal>,
 }

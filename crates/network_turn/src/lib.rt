@@ -11,7 +11,7 @@ pub use answer::{Answer, TurnResult};
 use link_key::Key;
 use node::Node;
 use node_key_sets::Change;
-use refusal::Verdict;
+use refusal::Refusal;
 
 // The sender is asked for a frame of this type, and the receiver receives it with the identifier of the key answered. The radio
 // reports the frame verified exactly where their keys are equal. A refusal ends the turn.
@@ -23,12 +23,12 @@ pub fn turn(sender: Node, receiver: Node, frame_type: u8) -> TurnResult
     let answer = sent.answer;
     let verdict = answer.verdict;
     match verdict {
-        Verdict::Refused(why) => TurnResult {
+        Err(why) => TurnResult {
             sender: after,
             receiver,
-            answer: Answer::Refused(why),
+            answer: Err(why),
         },
-        Verdict::Accepted => {
+        Ok(()) => {
             let key = answer.key;
             received(after, receiver, frame_type, key)
         }
@@ -42,12 +42,12 @@ fn received(sender: Node, receiver: Node, frame_type: u8, key: Key) -> TurnResul
     let found = receiver.receiving_key(frame_type, key.identifier);
     let verdict = found.verdict;
     match verdict {
-        Verdict::Refused(why) => TurnResult {
+        Err(why) => TurnResult {
             sender,
             receiver,
-            answer: Answer::Refused(why),
+            answer: Err(why),
         },
-        Verdict::Accepted => {
+        Ok(()) => {
             let held = found.key;
             judged(sender, receiver, frame_type, key, held)
         }
@@ -71,17 +71,17 @@ fn judged(sender: Node, receiver: Node, frame_type: u8, key: Key, found: Key) ->
     TurnResult {
         sender,
         receiver,
-        answer: Answer::Failed,
+        answer: Ok(Answer::Failed),
     }
 }
 
 // What the receiver's answer to the report of a verified frame is in a turn.
-fn answer_of(change: Change) -> Answer
+fn answer_of(change: Result<Change, Refusal>) -> Result<Answer, Refusal>
     ensures { result ≡ answer_of change }
 {
     match change {
-        Change::Refused(why) => Answer::Refused(why),
-        Change::Switched => Answer::Switched,
-        Change::Kept => Answer::Kept,
+        Err(why) => Err(why),
+        Ok(Change::Switched) => Ok(Answer::Switched),
+        Ok(Change::Kept) => Ok(Answer::Kept),
     }
 }

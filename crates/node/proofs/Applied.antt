@@ -1,4 +1,5 @@
 -- What a node makes of a payload, by the answers of the functions that judge it, read it and place its key set.
+use Rattle.std.specs.Prelude.{Result, Ok, Err}
 use Prim.Native.Nat.{ℕ}
 use mathlib.Core.Path.{◌≡◌, refl, sym, ◌∙◌, ap}
 use mathlib.Core.Bool.{Bool, true, false}
@@ -6,12 +7,9 @@ use mathlib.Core.List.{List}
 use lib.ListN.{length}
 use Rattle.refusal.specs.declared.Refusal.{Refusal}
 use Rattle.refusal.specs.declared.Refusal.TheVariants as refusal
-use Rattle.refusal.specs.declared.Verdict.{Verdict}
-use Rattle.refusal.specs.declared.Verdict.TheVariants as verdict
+use Rattle.refusal.specs.Verdict.{Verdict}
 use Rattle.node_key_sets.specs.Sets.{placed, install, set_at, placing}
 use Rattle.node_key_sets.specs.declared.sets.KeySets.{KeySets}
-use Rattle.node_key_sets.specs.declared.sets.InstallDecision.{InstallDecision}
-use Rattle.node_key_sets.specs.declared.sets.InstallDecision.TheVariants as place
 use Rattle.node_key_sets.specs.declared.sets.InstallResult.{InstallResult}
 use Rattle.node_key_sets.specs.declared.sets.InstallSlot.{InstallSlot}
 use Rattle.node_attempt.specs.delivery.Delivery.{may_come}
@@ -40,17 +38,17 @@ module _ (delivery : Delivery) (n : Node) (time : ℕ) (payload : List ℕ) wher
   deliver-invalid e = rw e
 
   module _ (ok : valid n ≡ true) {v : Verdict} (is : v ≡ may_come delivery n.attempt time (length payload)) where
-    pub deliver-early : {k : Refusal} → v ≡ verdict.Refused k → undelivered k n ≡ deliver delivery n time payload
+    pub deliver-early : {k : Refusal} → v ≡ Err k → undelivered k n ≡ deliver delivery n time payload
     unfolding deliver deliver_verdict
     deliver-early e = rw (ok, sym is ∙ e)
 
-    module _ (may : v ≡ verdict.Accepted) {read : ConfigurationRead} (got : read ≡ read_configuration_as n.version payload) where
-      pub deliver-unread : {k : Refusal} → read.verdict ≡ verdict.Refused k → undelivered k n ≡ deliver delivery n time payload
+    module _ (may : v ≡ Ok tt) {read : ConfigurationRead} (got : read ≡ read_configuration_as n.version payload) where
+      pub deliver-unread : {k : Refusal} → read.verdict ≡ Err k → undelivered k n ≡ deliver delivery n time payload
       unfolding deliver deliver_verdict
       deliver-unread e = rw (ok, sym is ∙ may, ← got, e)
 
       pub deliver-read :
-          read.verdict ≡ verdict.Accepted → apply delivery n time (fitted n read.configuration) ≡ deliver delivery n time payload
+          read.verdict ≡ Ok tt → apply delivery n time (fitted n read.configuration) ≡ deliver delivery n time payload
       unfolding deliver deliver_verdict
       deliver-read e = rw (ok, sym is ∙ may, ← got, e)
 
@@ -63,10 +61,10 @@ module _ (n : Node) (c : Configuration) where
     where
       go : (v : Version) (w : Verdict) → (by_version v c (fitted_by w c)).network ≡ c.network
       go Draft w = refl
-      go Published verdict.Accepted = refl
-      go Published (verdict.Refused k) = refl
+      go Published (Ok tt) = refl
+      go Published (Err k) = refl
 
-  fitted-placed : (placement_of n c.keys).verdict ≡ verdict.Accepted → fitted n c ≡ c
+  fitted-placed : (placement_of n c.keys).verdict ≡ Ok tt → fitted n c ≡ c
   unfolding fitted
   fitted-placed e = rw e (go n.version)
     where
@@ -80,7 +78,7 @@ module _ (n : Node) (c : Configuration) where
     not-placed e = taken_not c.keys.disposition (install (is_border n) n.sets c.keys.value) (placed n.sets) t asked e
 
     placed_at :
-        (p : InstallDecision) → t ≡ true → install (is_border n) n.sets c.keys.value ≡ placing p n.sets c.keys.value →
+        (p : Result InstallSlot Refusal) → t ≡ true → install (is_border n) n.sets c.keys.value ≡ placing p n.sets c.keys.value →
         placement_of n c.keys ≡ placing p n.sets c.keys.value
     placed_at p e f = taken_is c.keys.disposition (install (is_border n) n.sets c.keys.value) (placed n.sets) t asked e ∙ f
 
@@ -94,11 +92,11 @@ module _ (delivery : Delivery) (n : Node) (time : ℕ) (c : Configuration) where
   -- a node m with its key sets placed, and what is left of the configuration: all else changes by them as the definition says
   pub record Placed (m : Node) (left : Configuration) : Type 0 where
     pub held : m ≡ keyed n m.sets
-    pub does : placed_by verdict.Accepted delivery n time left m.sets ≡ apply delivery n time (fitted n c)
+    pub does : placed_by (Ok tt) delivery n time left m.sets ≡ apply delivery n time (fitted n c)
 
   module _ (owes : owes_identifier delivery n c.network.disposition ≡ false) where
     apply-placed : {s : KeySets} → placement_of n c.keys ≡ placed s
-        → placed_by verdict.Accepted delivery n time c s ≡ apply delivery n time (fitted n c)
+        → placed_by (Ok tt) delivery n time c s ≡ apply delivery n time (fitted n c)
     unfolding apply
     apply-placed e = rw (fitted-placed n c (ap (λ (p : InstallResult). p.verdict) e), owes, e)
 
@@ -106,19 +104,19 @@ module _ (delivery : Delivery) (n : Node) (time : ℕ) (c : Configuration) where
       pub none-placed : t ≡ false → Placed n c
       none-placed e = record { held = refl; does = apply-placed (not-placed n c asked e) }
 
-      module _ (took : t ≡ true) {p : InstallDecision}
+      module _ (took : t ≡ true) {p : Result InstallSlot Refusal}
           (told : install (is_border n) n.sets c.keys.value ≡ placing p n.sets c.keys.value) where
-        goes : {q : InstallDecision} → p ≡ q → placement_of n c.keys ≡ placing q n.sets c.keys.value
+        goes : {q : Result InstallSlot Refusal} → p ≡ q → placement_of n c.keys ≡ placing q n.sets c.keys.value
         goes e = rw (← e) (placed_at n c asked p took told)
 
-        pub set-placed : {spot : InstallSlot} → p ≡ place.At spot → Placed (keyed n (set_at spot n.sets c.keys.value)) c
+        pub set-placed : {spot : InstallSlot} → p ≡ Ok spot → Placed (keyed n (set_at spot n.sets c.keys.value)) c
         set-placed e = record { held = refl; does = apply-placed (goes e) }
 
-        pub apply-clash : {k : Refusal} → p ≡ place.Refused k → n.version ≡ Draft → undelivered k n ≡ apply delivery n time (fitted n c)
+        pub apply-clash : {k : Refusal} → p ≡ Err k → n.version ≡ Draft → undelivered k n ≡ apply delivery n time (fitted n c)
         unfolding apply fitted
         apply-clash e draft = rw (draft, owes, goes e)
 
-        pub set-discarded : {k : Refusal} → p ≡ place.Refused k → n.version ≡ Published
+        pub set-discarded : {k : Refusal} → p ≡ Err k → n.version ≡ Published
             → Placed n (with_keys c (no_keys_parameter Discarded))
         unfolding apply fitted
         set-discarded e form = record { held = refl; does = rw (form, goes e, owes) }

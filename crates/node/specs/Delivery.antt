@@ -1,9 +1,8 @@
 -- What a node makes of a configuration that a join answer or an update brings.
-use Rattle.std.specs.Prelude.{ℕ, Bool, true, false, cond, not, ◌&&◌, List, length}
+use Rattle.std.specs.Prelude.{ℕ, Bool, true, false, cond, not, ◌&&◌, List, length, Ok, Err}
 use Rattle.refusal.specs.declared.Refusal.{Refusal}
 use Rattle.refusal.specs.declared.Refusal.TheVariants as refusal
-use Rattle.refusal.specs.declared.Verdict.{Verdict}
-use Rattle.refusal.specs.declared.Verdict.TheVariants as verdict
+use Rattle.refusal.specs.Verdict.{Verdict}
 use Rattle.node_key_sets.specs.Sets.{placed, install}
 use Rattle.node_key_sets.specs.declared.sets.KeySets.{KeySets}
 use Rattle.node_key_sets.specs.declared.sets.InstallResult.{InstallResult}
@@ -36,8 +35,8 @@ placement_of n p = if_taken p.disposition (install (is_border n) n.sets p.value)
 
 -- in the published form a set that cannot be placed is bad: nothing of it is taken, and all else is
 abbrev pub fitted_by : Verdict → Configuration → Configuration
-fitted_by verdict.Accepted c = c
-fitted_by (verdict.Refused k) c = with_keys c (no_keys_parameter Discarded)
+fitted_by (Ok tt) c = c
+fitted_by (Err k) c = with_keys c (no_keys_parameter Discarded)
 
 unfoldable pub fitted : Node → Configuration → Configuration
 fitted n c = by_version n.version c (fitted_by (placement_of n c.keys).verdict c)
@@ -60,10 +59,10 @@ configured delivery n time c sets reports = record {
 
 -- ---- the answer
 abbrev pub undelivered : Refusal → Node → DeliveryResult
-undelivered k n = record { verdict = verdict.Refused k; dispositions = no_dispositions; node = n }
+undelivered k n = record { verdict = Err k; dispositions = no_dispositions; node = n }
 
 abbrev pub delivered : Dispositions → Node → DeliveryResult
-delivered reports n = record { verdict = verdict.Accepted; dispositions = reports; node = n }
+delivered reports n = record { verdict = Ok tt; dispositions = reports; node = n }
 
 -- a border node's join answer owes a network identifier when the request had none and none was taken
 abbrev pub owes_identifier : Delivery → Node → Disposition → Bool
@@ -71,8 +70,8 @@ owes_identifier delivery n r = (asks_identifier delivery && is_border n && not n
 
 -- the key sets are placed, and all else is changed with them
 abbrev pub placed_by : Verdict → Delivery → Node → ℕ → Configuration → KeySets → DeliveryResult
-placed_by (verdict.Refused k) delivery n time c sets = undelivered k n
-placed_by verdict.Accepted delivery n time c sets =
+placed_by (Err k) delivery n time c sets = undelivered k n
+placed_by (Ok tt) delivery n time c sets =
     delivered (dispositions_of (is_border n) c) (configured delivery n time c sets (dispositions_of (is_border n) c))
 
 -- a configuration is applied: OWED, CLASH (RANGE, where its key set is outside the limits: none that was read is), the change
@@ -84,16 +83,16 @@ apply delivery n time c =
 
 -- whether a payload of so many bytes may be handed over: RANGE: the node; LONG, CLOCK, PHASE
 unfoldable pub deliver_verdict : Delivery → Node → ℕ → ℕ → Verdict
-deliver_verdict delivery n time len = cond (valid n) (may_come delivery n.attempt time len) (verdict.Refused refusal.Range)
+deliver_verdict delivery n time len = cond (valid n) (may_come delivery n.attempt time len) (Err refusal.Range)
 
 -- nothing of a payload that is refused is applied
 abbrev pub apply_read : Verdict → Delivery → Node → ℕ → Configuration → DeliveryResult
-apply_read (verdict.Refused k) delivery n time c = undelivered k n
-apply_read verdict.Accepted delivery n time c = apply delivery n time (fitted n c)
+apply_read (Err k) delivery n time c = undelivered k n
+apply_read (Ok tt) delivery n time c = apply delivery n time (fitted n c)
 
 abbrev pub deliver_by : Verdict → Delivery → Node → ℕ → ConfigurationRead → DeliveryResult
-deliver_by (verdict.Refused k) delivery n time r = undelivered k n
-deliver_by verdict.Accepted delivery n time r = apply_read r.verdict delivery n time r.configuration
+deliver_by (Err k) delivery n time r = undelivered k n
+deliver_by (Ok tt) delivery n time r = apply_read r.verdict delivery n time r.configuration
 
 -- how the node reads a payload: in its form
 abbrev pub read_for : Node → List ℕ → ConfigurationRead

@@ -1,10 +1,10 @@
 -- Which key a node sends and receives a frame with, and what a verified frame does to it.
-use Rattle.std.specs.Prelude.{ℕ, cond}
+use Rattle.refusal.specs.declared.Refusal.{Refusal}
+use Rattle.std.specs.Prelude.{ℕ, cond, Result, Err}
 use Rattle.refusal.specs.declared.Refusal.TheVariants as refusal
 use Rattle.node_key_sets.specs.Frames as sets
 use Rattle.node_key_sets.specs.Frames.{Effect, without_key, receiving_key, verified_in}
 use Rattle.node_key_sets.specs.declared.frames.Change.{Change}
-use Rattle.node_key_sets.specs.declared.frames.Change.TheVariants as change
 use Rattle.node_key_sets.specs.declared.frames.KeyAnswer.{KeyAnswer}
 use Rattle.node_key_sets.specs.declared.frames.SendKeyResult.{SendKeyResult}
 use Rattle.node.specs.Node.{keyed}
@@ -36,7 +36,7 @@ after_send n type = (sending n type).node
 unfoldable pub receive : Node → ℕ → ℕ → KeyAnswer
 receive n type identifier = cond (valid n) (receiving_key n.sets type identifier) (without_key refusal.Range)
 
-abbrev pub reported : Change → Node → VerifyResult
+abbrev pub reported : Result Change Refusal → Node → VerifyResult
 reported change n = record { change = change; node = n }
 
 abbrev pub reported_by : Node → Effect → VerifyResult
@@ -44,4 +44,4 @@ reported_by n h = reported h.change (keyed n h.sets)
 
 unfoldable pub verified : Node → ℕ → ℕ → VerifyResult
 verified n type identifier =
-    cond (valid n) (reported_by n (verified_in n.sets type identifier)) (reported (change.Refused refusal.Range) n)
+    cond (valid n) (reported_by n (verified_in n.sets type identifier)) (reported (Err refusal.Range) n)

@@ -1,7 +1,6 @@
 -- A node: what it holds, and how it is made.
-use Rattle.std.specs.Prelude.{ℕ, Bool, cond, List, leb, eqb}
+use Rattle.std.specs.Prelude.{ℕ, Bool, cond, List, leb, eqb, Ok, Err}
 use Rattle.refusal.specs.declared.Refusal.TheVariants.{Range}
-use Rattle.refusal.specs.declared.Verdict.TheVariants as verdict
 use Rattle.link_key.specs.declared.Key.{Key}
 use Rattle.node_key_sets.specs.Sets.{active_in, pending_in, no_sets}
 use Rattle.node_key_sets.specs.declared.sets.KeySets.{KeySets}
@@ -63,13 +62,13 @@ valid_role role = leb role 1
 
 -- the answer: RANGE for the role or the network identifier, and the empty node, which is one of the draft, beside it
 abbrev pub unmade : MakeResult
-unmade = record { verdict = verdict.Refused Range; node = empty_node }
+unmade = record { verdict = Err Range; node = empty_node }
 
 unfoldable pub made : Version → ℕ → HeldOctets → MakeResult
 made version role network =
     cond (valid_role role)
     (cond (valid_octets network)
-    (record { verdict = verdict.Accepted; node = fresh_node version role (known_octets network) })
+    (record { verdict = Ok tt; node = fresh_node version role (known_octets network) })
     unmade)
     unmade
 

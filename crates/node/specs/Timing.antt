@@ -1,12 +1,9 @@
 -- The join attempt of a node: a start writes the join request, and polls say when to send it again and when to give up.
-use Rattle.std.specs.Prelude.{ℕ, ◌≡◌, cond, List}
+use Rattle.std.specs.Prelude.{ℕ, ◌≡◌, cond, List, Result, Ok, Err}
 use Rattle.refusal.specs.declared.Refusal.{Refusal}
 use Rattle.refusal.specs.declared.Refusal.TheVariants as refusal
-use Rattle.refusal.specs.declared.Verdict.{Verdict}
-use Rattle.refusal.specs.declared.Verdict.TheVariants as verdict
+use Rattle.refusal.specs.Verdict.{Verdict}
 use Rattle.byte_io.specs.Write.{Plan, refuse, answer, after}
-use Rattle.byte_io.specs.declared.WriteResult.{WriteResult}
-use Rattle.byte_io.specs.declared.WriteResult.TheVariants as written
 use Rattle.cojp.specs.ErrorReports.{no_error_reports}
 use Rattle.cojp.specs.Writing.{request_plan}
 use Rattle.cojp.specs.declared.request.JoinRequest.{JoinRequest}
@@ -14,7 +11,6 @@ use Rattle.cojp_list.specs.Listed.{listed_in}
 use Rattle.node_attempt.specs.Attempt.{may_start, waiting_from}
 use Rattle.node_attempt.specs.Poll as attempt
 use Rattle.node_attempt.specs.declared.poll.Due.{Due}
-use Rattle.node_attempt.specs.declared.poll.Due.TheVariants as due
 use Rattle.node_attempt.specs.declared.poll.AttemptResult.{AttemptResult}
 use Rattle.node_parameters.specs.Octets.{identifier_in}
 use Rattle.node.specs.Node.{attempting}
@@ -36,12 +32,12 @@ request_of n = record {
 
 -- whether it may start: RANGE: the node; CLOCK, PHASE, RANGE: the timeout
 unfoldable pub start_verdict : Node → ℕ → ℕ → Verdict
-start_verdict n time timeout = cond (valid n) (may_start n.attempt time timeout) (verdict.Refused refusal.Range)
+start_verdict n time timeout = cond (valid n) (may_start n.attempt time timeout) (Err refusal.Range)
 
 -- what a start writes: the request, which may be OWED or have no ROOM
 abbrev pub plan_by : Verdict → Plan → Plan
-plan_by (verdict.Refused k) p = refuse k
-plan_by verdict.Accepted p = p
+plan_by (Err k) p = refuse k
+plan_by (Ok tt) p = p
 
 unfoldable pub start_plan : Node → ℕ → ℕ → Plan
 start_plan n time timeout = plan_by (start_verdict n time timeout) (request_plan n.version (request_of n))
@@ -51,11 +47,11 @@ abbrev pub started_from : Node → ℕ → ℕ → Node
 started_from n time timeout = attempting n (waiting_from time timeout)
 
 abbrev pub unstarted : Refusal → Node → StartResult
-unstarted k n = record { verdict = verdict.Refused k; length = 0; node = n }
+unstarted k n = record { verdict = Err k; length = 0; node = n }
 
-abbrev pub started_by : WriteResult → Node → Node → StartResult
-started_by (written.Refused k) n m = unstarted k n
-started_by (written.Length l) n m = record { verdict = verdict.Accepted; length = l; node = m }
+abbrev pub started_by : Result ℕ Refusal → Node → Node → StartResult
+started_by (Err k) n m = unstarted k n
+started_by (Ok l) n m = record { verdict = Ok tt; length = l; node = m }
 
 -- the answer, d being what the destination holds
 unfoldable pub start : Node → ℕ → ℕ → List ℕ → StartResult
@@ -71,11 +67,11 @@ pub record StartDid (n : Node) (time timeout : ℕ) (d : List ℕ) (r : StartRes
   pub holds : d' ≡ start_after n time timeout d
 
 -- ---- polling: RANGE: the node; then as its join attempt
-abbrev pub polled : Due → Node → PollResult
+abbrev pub polled : Result Due Refusal → Node → PollResult
 polled due n = record { due = due; node = n }
 
 abbrev pub polled_by : Node → AttemptResult → PollResult
 polled_by n s = polled s.due (attempting n s.attempt)
 
 unfoldable pub poll : Node → ℕ → PollResult
-poll n time = cond (valid n) (polled_by n (attempt.poll n.attempt time)) (polled (due.Refused refusal.Range) n)
+poll n time = cond (valid n) (polled_by n (attempt.poll n.attempt time)) (polled (Err refusal.Range) n)

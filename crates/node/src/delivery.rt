@@ -10,16 +10,17 @@ use cojp_read::read_configuration;
 use link_key::set::KeySet;
 use link_key_counters::{none_counted, with_zero_counters};
 use node_attempt::delivery::Delivery;
-use node_key_sets::{InstallDecision, InstallSlot, KeySets};
+use node_key_sets::{InstallSlot, KeySets};
 use node_parameters::Dispositions;
 use node_parameters::dispositions::{dispositions_of, no_dispositions};
 use protocol_version::Version;
-use refusal::{Refusal, Verdict};
+use refusal::Refusal;
 
 // Beside a refusal stand the empty report and the node as it was.
+// Kept: the theorem Demand1 of node_laws speaks of both beside a refusal.
 #[derive(Clone, Copy)]
 pub struct DeliveryResult {
-    pub verdict: Verdict,
+    pub verdict: Result<(), Refusal>,
     pub dispositions: Dispositions,
     pub node: Node,
 }
@@ -50,7 +51,7 @@ impl Node {
         ensures { result ≡ undelivered why self }
     {
         DeliveryResult {
-            verdict: Verdict::Refused(why),
+            verdict: Err(why),
             dispositions: no_dispositions(),
             node: self,
         }
@@ -60,9 +61,10 @@ impl Node {
     fn owes_identifier(self, delivery: Delivery, parameter: OctetsParameter) -> bool
         ensures { result ≡ owes_identifier delivery self parameter.disposition }
     {
-        let network = self.network;
-        let report = parameter.disposition;
-        delivery.asks_identifier() && self.role == 1 && !network.held && !is_taken(report)
+        delivery.asks_identifier()
+            && self.role == 1
+            && !self.network.held
+            && !is_taken(parameter.disposition)
     }
 
     // A payload with a configuration of the node's form: RANGE: the node; LONG, CLOCK, PHASE; then reading, OWED, CLASH in the draft.
@@ -73,13 +75,11 @@ impl Node {
         if !self.valid() {
             return self.undelivered(Refusal::Range);
         }
-        if let Verdict::Refused(why) = delivery.may_come(self.attempt, time, payload.len()) {
+        if let Err(why) = delivery.may_come(self.attempt, time, payload.len()) {
             return self.undelivered(why);
         }
-        let version = self.version;
-        let read = read_configuration(payload, version, false);
-        let verdict = read.verdict;
-        if let Verdict::Refused(why) = verdict {
+        let read = read_configuration(payload, self.version, false);
+        if let Err(why) = read.verdict {
             return self.undelivered(why);
         }
         let mut c = read.configuration;
@@ -87,32 +87,27 @@ impl Node {
             return self.undelivered(Refusal::Owed);
         }
         let keys = c.keys;
-        let report = keys.disposition;
-        if is_taken(report) {
-            let place = self.sets.decide_install(self.role == 1, keys.value);
-            match place {
+        if is_taken(keys.disposition) {
+            match self.sets.decide_install(self.role == 1, keys.value) {
                 // The draft refuses a set that cannot be placed, the published form takes the rest.
-                InstallDecision::Refused(why) => match version {
+                Err(why) => match self.version {
                     Version::Draft => return self.undelivered(why),
                     Version::Published => c.keys = no_key_set(Disposition::Discarded),
                 },
-                InstallDecision::At(spot) => self.sets = with_set(self.sets, spot, keys.value),
+                Ok(spot) => self.sets = with_set(self.sets, spot, keys.value),
             }
         }
         let reports = dispositions_of(self.role == 1, c);
-        let jrc = reports.jrc;
-        let network = reports.network;
-        let prefix = reports.prefix;
         self.attempt = delivery.attempt_after(self.attempt, time);
         self.address = self.address.after(time, c.address);
-        self.jrc = self.jrc.after(jrc, c.jrc);
-        self.network = self.network.after(network, c.network);
-        self.prefix = self.prefix.after(prefix, c.prefix);
+        self.jrc = self.jrc.after(reports.jrc, c.jrc);
+        self.network = self.network.after(reports.network, c.network);
+        self.prefix = self.prefix.after(reports.prefix, c.prefix);
         self.blacklist = self.blacklist.after(c.blacklist);
         self.rate = self.rate.after(c.rate);
         self.errors = error_reports_of(c);
         DeliveryResult {
-            verdict: Verdict::Accepted,
+            verdict: Ok(()),
             dispositions: reports,
             node: self,
         }

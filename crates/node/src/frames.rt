@@ -20,70 +20,66 @@ pub struct SendResult {
 
 #[derive(Clone, Copy)]
 pub struct VerifyResult {
-    pub change: Change,
+    pub change: Result<Change, Refusal>,
     pub node: Node,
 }
 
 impl Node {
     // The key to send a frame of this type with: the first active one that covers it and is not used up. RANGE: the node, the type; SILENT.
-    pub fn sending_key(self, frame_type: u8) -> SendResult
+    #[tactic(auto, unfolding(crate::specs::Frames::sending))]
+    pub fn sending_key(mut self, frame_type: u8) -> SendResult
         ensures { result ≡ sending self frame_type }
     {
         if !self.valid() {
-            let answer = without_key(Refusal::Range);
             return SendResult {
-                answer,
+                answer: without_key(Refusal::Range),
                 counter: 0,
                 node: self,
             };
         }
         let sending = self.sets.sending_key(frame_type);
-        let answer = sending.answer;
-        let sets = sending.sets;
-        let mut node = self;
-        node.sets = sets;
+        self.sets = sending.sets;
         SendResult {
-            answer,
+            answer: sending.answer,
             counter: sending.counter,
-            node,
+            node: self,
         }
     }
 
     // The key to receive a frame of this type and key identifier with. RANGE: the node, the type, identifier 0; SILENT.
+    #[tactic(auto, unfolding(crate::specs::Frames::receive))]
     pub fn receiving_key(self, frame_type: u8, identifier: u8) -> KeyAnswer
         ensures { result ≡ receive self frame_type identifier }
     {
-        if self.valid() {
-            return self.sets.receiving_key(frame_type, identifier);
+        if !self.valid() {
+            return without_key(Refusal::Range);
         }
-        without_key(Refusal::Range)
+        self.sets.receiving_key(frame_type, identifier)
     }
 
     // The node whose pending key set has become active.
-    fn switched(self) -> Node
+    fn switched(mut self) -> Node
         ensures { result ≡ keyed self (switched self.sets) }
     {
-        let sets = self.sets.switched();
-        let mut node = self;
-        node.sets = sets;
-        node
+        self.sets = self.sets.switched();
+        self
     }
 
     // The radio reports a frame of this type and key identifier verified. Refused as `receiving_key` is.
+    #[tactic(auto, unfolding(crate::specs::Frames::verified))]
     pub fn verified(self, frame_type: u8, identifier: u8) -> VerifyResult
         ensures { result ≡ verified self frame_type identifier }
     {
         if !self.valid() {
             return VerifyResult {
-                change: Change::Refused(Refusal::Range),
+                change: Err(Refusal::Range),
                 node: self,
             };
         }
         let change = self.sets.verified(frame_type, identifier);
         match change {
-            Change::Refused(_) => VerifyResult { change, node: self },
-            Change::Kept => VerifyResult { change, node: self },
-            Change::Switched => VerifyResult {
+            Err(_) | Ok(Change::Kept) => VerifyResult { change, node: self },
+            Ok(Change::Switched) => VerifyResult {
                 change,
                 node: self.switched(),
             },

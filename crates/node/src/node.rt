@@ -13,11 +13,12 @@ use node_parameters::octets::absent_octets;
 use node_parameters::rate::absent_rate;
 use node_parameters::{HeldAddress, HeldList, HeldOctets, HeldRate};
 use protocol_version::Version;
-use refusal::{Refusal, Verdict};
+use refusal::Refusal;
 
 #[derive(Clone, Copy)]
 pub struct Node {
     // 0 ordinary, 1 border (6LBR).
+    // Kept: a number, since another one is a value that `valid` and `made` refuse with RANGE, and that C hands over.
     pub role: u8,
     pub attempt: Attempt,
     pub sets: KeySets,
@@ -34,9 +35,10 @@ pub struct Node {
 }
 
 // A node that was made; beside a refusal stands the empty node.
+// Kept: the definition `unmade` in the clause of `new` and the theorem Demand1 of node_laws speak of the empty node.
 #[derive(Clone, Copy)]
 pub struct MakeResult {
-    pub verdict: Verdict,
+    pub verdict: Result<(), Refusal>,
     pub node: Node,
 }
 
@@ -72,7 +74,7 @@ fn not_made() -> MakeResult
     ensures { result ≡ unmade }
 {
     MakeResult {
-        verdict: Verdict::Refused(Refusal::Range),
+        verdict: Err(Refusal::Range),
         node: fresh_node(Version::Draft, 0, absent_octets()),
     }
 }
@@ -97,17 +99,15 @@ impl Node {
 
     // An idle node of this version and role, perhaps with a network identifier. RANGE: role over 1, identifier over 16 bytes. Beside a
     // refusal is the empty node of the draft.
+    #[tactic(auto, unfolding(crate::specs::Node::made))]
     pub fn new(version: Version, role: u8, network: HeldOctets) -> MakeResult
         ensures { result ≡ made version role network }
     {
-        if 1 < role {
-            return not_made();
-        }
-        if !network.valid() {
+        if 1 < role || !network.valid() {
             return not_made();
         }
         MakeResult {
-            verdict: Verdict::Accepted,
+            verdict: Ok(()),
             node: fresh_node(version, role, network.known()),
         }
     }

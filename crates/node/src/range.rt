@@ -11,31 +11,26 @@ impl Node {
     fn draft_valid(self) -> bool
         ensures { result ≡ draft_valid self }
     {
-        let blacklist = self.blacklist;
-        let rate = self.rate;
-        !blacklist.held && !rate.held && self.prefix.valid()
+        !self.blacklist.held && !self.rate.held && self.prefix.valid()
     }
 
     // Whether a node of the published form has no prefix, and a blacklist in range if it has one.
     fn published_valid(self) -> bool
         ensures { result ≡ published_valid self }
     {
-        let prefix = self.prefix;
-        !prefix.held && self.blacklist.valid()
+        !self.prefix.held && self.blacklist.valid()
     }
 
     // Whether what the node has besides belongs to its form.
+    #[tactic(auto, unfolding(crate::specs::Range::version_valid))]
     fn version_valid(self) -> bool
         ensures { result ≡ version_valid self }
     {
-        let version = self.version;
-        if !error_reports_valid(version, self.errors) {
-            return false;
-        }
-        match version {
-            Version::Draft => self.draft_valid(),
-            Version::Published => self.published_valid(),
-        }
+        error_reports_valid(self.version, self.errors)
+            && match self.version {
+                Version::Draft => self.draft_valid(),
+                Version::Published => self.published_valid(),
+            }
     }
 
     fn others_valid(self) -> bool
@@ -48,12 +43,10 @@ impl Node {
     pub fn valid(self) -> bool
         ensures { result ≡ valid self }
     {
-        let attempt = self.attempt;
-        let version = self.version;
-        let allowed = version.allows_additional_info();
+        let allowed = self.version.allows_additional_info();
         self.sets.valid(self.role == 1, allowed)
-            && attempt.valid()
-            && self.address.valid(attempt.clock)
+            && self.attempt.valid()
+            && self.address.valid(self.attempt.clock)
             && self.others_valid()
     }
 }

@@ -5,24 +5,24 @@ ghost use Rattle.node.specs.Node.{attempting};
 ghost use Rattle.node.specs.Timing.{request_of, start_verdict, started_from, started_by, unstarted, StartDid, poll};
 
 use crate::node::Node;
-use byte_io::WriteResult;
 use cojp::{JoinRequest, no_error_reports};
 use cojp_list::unsupported_of;
 use cojp_write::write_request;
 use node_attempt::{Attempt, Due, Phase};
-use refusal::{Refusal, Verdict};
+use refusal::Refusal;
 
 // A start wrote `length` bytes of the join request; beside a refusal stand 0 and the node as it was.
+// Kept: the clause StartDid of `start` and the theorem Demand1 of node_laws speak of the node beside a refusal.
 #[derive(Clone, Copy)]
 pub struct StartResult {
-    pub verdict: Verdict,
+    pub verdict: Result<(), Refusal>,
     pub length: usize,
     pub node: Node,
 }
 
 #[derive(Clone, Copy)]
 pub struct PollResult {
-    pub due: Due,
+    pub due: Result<Due, Refusal>,
     pub node: Node,
 }
 
@@ -41,6 +41,7 @@ fn waiting_from(time: u64, timeout: u64) -> Attempt
 
 impl Node {
     // The node's join request.
+    #[tactic(auto, unfolding(crate::specs::Timing::request_of))]
     fn request(self) -> JoinRequest
         ensures { result ≡ request_of self }
     {
@@ -54,42 +55,42 @@ impl Node {
     }
 
     // The node with another join attempt.
-    fn attempting(self, attempt: Attempt) -> Node
+    fn attempting(mut self, attempt: Attempt) -> Node
         ensures { result ≡ attempting self attempt }
     {
-        let mut node = self;
-        node.attempt = attempt;
-        node
+        self.attempt = attempt;
+        self
     }
 
     fn unstarted(self, why: Refusal) -> StartResult
         ensures { result ≡ unstarted why self }
     {
         StartResult {
-            verdict: Verdict::Refused(why),
+            verdict: Err(why),
             length: 0,
             node: self,
         }
     }
 
     // Whether a join attempt may start. RANGE: the node; CLOCK, PHASE; RANGE: the timeout.
-    fn may_start(self, time: u64, timeout: u64) -> Verdict
+    #[tactic(auto, unfolding(crate::specs::Timing::start_verdict))]
+    fn may_start(self, time: u64, timeout: u64) -> Result<(), Refusal>
         ensures { result ≡ start_verdict self time timeout }
     {
-        if self.valid() {
-            return self.attempt.may_start(time, timeout);
+        if !self.valid() {
+            return Err(Refusal::Range);
         }
-        Verdict::Refused(Refusal::Range)
+        self.attempt.may_start(time, timeout)
     }
 
     // The answer to a start, by what became of its request.
-    fn started(self, written: WriteResult, time: u64, timeout: u64) -> StartResult
+    fn started(self, written: Result<usize, Refusal>, time: u64, timeout: u64) -> StartResult
         ensures { result ≡ started_by written self (started_from self time timeout) }
     {
         match written {
-            WriteResult::Refused(why) => self.unstarted(why),
-            WriteResult::Length(length) => StartResult {
-                verdict: Verdict::Accepted,
+            Err(why) => self.unstarted(why),
+            Ok(length) => StartResult {
+                verdict: Ok(()),
                 length,
                 node: self.attempting(waiting_from(time, timeout)),
             },
@@ -101,30 +102,27 @@ impl Node {
     pub fn start(self, dst: &mut [u8], time: u64, timeout: u64) -> StartResult
         ensures { StartDid self time timeout dst.old result dst.new }
     {
-        match self.may_start(time, timeout) {
-            Verdict::Refused(why) => self.unstarted(why),
-            Verdict::Accepted => {
-                let version = self.version;
-                let written = write_request(dst, self.request(), version);
-                self.started(written, time, timeout)
-            }
+        if let Err(why) = self.may_start(time, timeout) {
+            return self.unstarted(why);
         }
+        let written = write_request(dst, self.request(), self.version);
+        self.started(written, time, timeout)
     }
 
     // Asks what is due in the join attempt; at most one step per poll. RANGE: the node; CLOCK, PHASE.
+    #[tactic(auto, unfolding(crate::specs::Timing::poll))]
     pub fn poll(self, time: u64) -> PollResult
         ensures { result ≡ poll self time }
     {
         if !self.valid() {
             return PollResult {
-                due: Due::Refused(Refusal::Range),
+                due: Err(Refusal::Range),
                 node: self,
             };
         }
         let step = self.attempt.poll(time);
-        let due = step.due;
         PollResult {
-            due,
+            due: step.due,
             node: self.attempting(step.attempt),
         }
     }

@@ -1,4 +1,5 @@
 -- A valid attempt: what that says of its counter, its times and its timeout, and back; and what starts and polls make of it.
+use Rattle.std.specs.Prelude.{Ok, Err, Result}
 use Prim.Native.Nat.{ℕ, zero, suc, ◌+◌, ◌-◌, ◌*◌, ◌/◌, ◌%◌, ◌≤◌, ◌<◌}
 use native.Mathlib.Numerals.{add-one}
 use native.Mathlib.Omega.{arith}
@@ -9,13 +10,14 @@ use lib.Dec.{leb, ltb, eqb}
 use Rattle.refusal.specs.RefusalLemmas.{refused-not, accepted-not}
 use Rattle.refusal.specs.declared.Refusal.{Refusal}
 use Rattle.refusal.specs.declared.Refusal.TheVariants as refusal
-use Rattle.refusal.specs.declared.Verdict.TheVariants as verdict
 use Rattle.lemmas.specs.logic.Tests.{both_left, both_right}
+use Rattle.refusal.specs.Verdict.{Verdict}
+use Rattle.node_attempt.specs.declared.poll.Due.{Due}
 use Rattle.node_attempt.specs.Attempt.{is_waiting, attempt, first_timeout, timeout_after, valid_timeout, valid, may_start, waiting_from}
 use Rattle.node_attempt.specs.Poll.{step, stepped, poll, due_verdict}
 use Rattle.node_attempt.specs.declared.attempt.Attempt.{Attempt}
 use Rattle.node_attempt.specs.declared.attempt.Phase.TheVariants as phase
-use Rattle.node_attempt.specs.declared.poll.Due.TheVariants.{Refused, NotYet, SendAgain, GaveUp}
+use Rattle.node_attempt.specs.declared.poll.Due.TheVariants.{NotYet, SendAgain, GaveUp}
 use Rattle.node_attempt.specs.declared.poll.AttemptResult.{AttemptResult}
 use Rattle.lemmas.specs.logic.Tests.{then-so}
 
@@ -51,7 +53,7 @@ module _ (a : Attempt) (time : ℕ) (c : a.clock ≤ time) (e : valid a ≡ true
   joined-valid = valid-by (attempt phase.Joined time a.sent a.timeout a.count) (count-valid a e) sent-before refl
 
 -- ---- starting
-module _ (a : Attempt) (time timeout : ℕ) (e : may_start a time timeout ≡ verdict.Accepted) where
+module _ (a : Attempt) (time timeout : ℕ) (e : may_start a time timeout ≡ Ok tt) where
   started-by :
       (v c w f : Bool) → valid a ≡ v → leb a.clock time ≡ c → is_waiting a.phase ≡ w → first_timeout timeout ≡ f →
       (c ≡ true) × (w ≡ false) × (f ≡ true)
@@ -103,11 +105,11 @@ timeout-small a e w =
 
 -- ---- polling: what holds of each step that is answered holds of a poll
 module _ (a : Attempt) (time : ℕ) (P : AttemptResult → Type 0)
-    (refused : (k : Refusal) → P (step (Refused k) a))
-    (still : a.clock ≤ time → P (step NotYet (attempt a.phase time a.sent a.timeout a.count)))
+    (refused : (k : Refusal) → P (step (Err k) a))
+    (still : a.clock ≤ time → P (step (Ok NotYet) (attempt a.phase time a.sent a.timeout a.count)))
     (again : a.clock ≤ time → is_waiting a.phase ≡ true → a.count < 4
-    → P (step SendAgain (attempt a.phase time time (2 * a.timeout) (a.count + 1))))
-    (over : a.clock ≤ time → P (step GaveUp (attempt phase.GaveUp time a.sent a.timeout a.count))) where
+    → P (step (Ok SendAgain) (attempt a.phase time time (2 * a.timeout) (a.count + 1))))
+    (over : a.clock ≤ time → P (step (Ok GaveUp) (attempt phase.GaveUp time a.sent a.timeout a.count))) where
   stepped-cases : (b : Bool) → ltb a.count 4 ≡ b → a.clock ≤ time → is_waiting a.phase ≡ true → P (stepped a time)
   unfolding stepped
   stepped-cases true e c w = rw e (again c w (ltb-true a.count 4 e))
@@ -154,12 +156,12 @@ module _ (a : Attempt) (time : ℕ) where
   poll-later = poll-cases a time (λ (s : AttemptResult). a.clock ≤ s.attempt.clock) (λ k. omega arith) (λ c. c) (λ c w h. c) (λ c. c)
 
   -- a refused poll leaves the attempt
-  pub poll-untouched : (k : Refusal) → due_verdict (poll a time).due ≡ verdict.Refused k
-      → ((poll a time).attempt ≡ a) × ((poll a time).due ≡ Refused k)
+  pub poll-untouched : (k : Refusal) → due_verdict (poll a time).due ≡ Err k
+      → ((poll a time).attempt ≡ a) × ((poll a time).due ≡ Err k)
   poll-untouched =
       poll-cases a time
-      (λ (s : AttemptResult). (k : Refusal) → due_verdict s.due ≡ verdict.Refused k → (s.attempt ≡ a) × (s.due ≡ Refused k))
+      (λ (s : AttemptResult). (k : Refusal) → due_verdict s.due ≡ Err k → (s.attempt ≡ a) × (s.due ≡ Err k))
       (λ l k e. (refl, same l k e)) (λ c k e. accepted-not k e) (λ c w h k e. accepted-not k e) (λ c k e. accepted-not k e)
     where
-      same : (l k : Refusal) → verdict.Refused l ≡ verdict.Refused k → Refused l ≡ Refused k
-      same l k e = cc
+      same : (l k : Refusal) → ◌≡◌ {A = Verdict} (Err l) (Err k) → ◌≡◌ {A = Result Due Refusal} (Err l) (Err k)
+      same l k e = let p : l ≡ k = cc in rw p

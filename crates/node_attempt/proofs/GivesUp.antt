@@ -1,5 +1,6 @@
 -- Each step that is taken when due falls one timeout after the last and doubles it,
 -- so the fifth comes t + 2t + 4t + 8t + 16t after the start.
+use Rattle.std.specs.Prelude.{Ok}
 use Prim.Native.Nat.{ℕ, ◌+◌, ◌-◌, ◌*◌, ◌<◌}
 use native.Mathlib.Omega.{arith}
 use mathlib.Core.Path.{◌≡◌, refl, ◌∙◌}
@@ -35,15 +36,15 @@ module _ (a : Attempt) (s t count : ℕ) (h : Waits a s t count) where
   unfolding poll
   poll-due = rw (h.is-valid, on-time, h.waiting, reached)
 
-  again-is : count < 4 → stepped a (due_at a) ≡ step SendAgain (attempt a.phase (due_at a) (due_at a) (2 * a.timeout) (a.count + 1))
+  again-is : count < 4 → stepped a (due_at a) ≡ step (Ok SendAgain) (attempt a.phase (due_at a) (due_at a) (2 * a.timeout) (a.count + 1))
   unfolding stepped
   again-is c = rw (lt-ltb a.count 4 (omega (arith, h.counted)))
 
-  over-is : count ≡ 4 → stepped a (due_at a) ≡ step GaveUp (attempt phase.GaveUp (due_at a) a.sent a.timeout a.count)
+  over-is : count ≡ 4 → stepped a (due_at a) ≡ step (Ok GaveUp) (attempt phase.GaveUp (due_at a) a.sent a.timeout a.count)
   unfolding stepped
   over-is c = rw (le-ltb a.count 4 (omega (arith, h.counted)))
 
-  due-again : count < 4 → ((poll a (due_at a)).due ≡ SendAgain) × Waits (poll a (due_at a)).attempt (s + t) (t + t) (count + 1)
+  due-again : count < 4 → ((poll a (due_at a)).due ≡ Ok SendAgain) × Waits (poll a (due_at a)).attempt (s + t) (t + t) (count + 1)
   due-again c =
       let e = poll-due ∙ again-is c in
       let at : due_at a ≡ s + t = omega (arith, h.sent, h.timeout) in (
@@ -60,7 +61,7 @@ module _ (a : Attempt) (s t count : ℕ) (h : Waits a s t count) where
 
   due-over :
       count ≡ 4
-      → ((poll a (due_at a)).due ≡ GaveUp) × ((poll a (due_at a)).attempt.phase ≡ phase.GaveUp)
+      → ((poll a (due_at a)).due ≡ Ok GaveUp) × ((poll a (due_at a)).attempt.phase ≡ phase.GaveUp)
       × ((poll a (due_at a)).attempt.clock ≡ s + t)
   due-over c =
       let e = poll-due ∙ over-is c in

@@ -1,8 +1,7 @@
 -- A node's join attempt: its phase, its clock and its timing, which may stand together, and how an attempt starts.
-use Rattle.std.specs.Prelude.{ℕ, zero, suc, ◌/◌, ◌%◌, Bool, true, false, cond, not, ◌&&◌, ◌||◌, leb, eqb}
+use Rattle.std.specs.Prelude.{ℕ, zero, suc, ◌/◌, ◌%◌, Bool, true, false, cond, not, ◌&&◌, ◌||◌, leb, eqb, Ok, Err}
 use Rattle.refusal.specs.declared.Refusal.TheVariants as refusal
-use Rattle.refusal.specs.declared.Verdict.{Verdict}
-use Rattle.refusal.specs.declared.Verdict.TheVariants as verdict
+use Rattle.refusal.specs.Verdict.{Verdict}
 use Rattle.node_attempt.specs.declared.attempt.Attempt.{Attempt}
 use Rattle.node_attempt.specs.declared.attempt.Phase.{Phase}
 use Rattle.node_attempt.specs.declared.attempt.Phase.TheVariants.{Idle, Waiting, Joined, GaveUp}
@@ -51,10 +50,10 @@ may_start a time timeout =
     cond (valid a)
     (cond (leb a.clock time)
     (cond (is_waiting a.phase)
-    (verdict.Refused refusal.Phase)
-    (cond (first_timeout timeout) verdict.Accepted (verdict.Refused refusal.Range)))
-    (verdict.Refused refusal.Clock))
-    (verdict.Refused refusal.Range)
+    (Err refusal.Phase)
+    (cond (first_timeout timeout) (Ok tt) (Err refusal.Range)))
+    (Err refusal.Clock))
+    (Err refusal.Range)
 
 -- the attempt that starts: waiting, the counter 0
 abbrev pub waiting_from : ℕ → ℕ → Attempt

@@ -2,7 +2,7 @@
 ghost use Rattle.std.specs.Prelude.{◌≡◌};
 ghost use Rattle.node_attempt.specs.Attempt.{is_waiting, is_joined, idle, first_timeout, timeout_after, valid, may_start};
 
-use refusal::{Refusal, Verdict};
+use refusal::Refusal;
 
 // Where the node stands with its join attempt.
 #[derive(Clone, Copy)]
@@ -29,19 +29,13 @@ pub struct Attempt {
 pub(crate) fn is_waiting(phase: Phase) -> bool
     ensures { result ≡ is_waiting phase }
 {
-    match phase {
-        Phase::Waiting => true,
-        _ => false,
-    }
+    matches!(phase, Phase::Waiting)
 }
 
 pub(crate) fn is_joined(phase: Phase) -> bool
     ensures { result ≡ is_joined phase }
 {
-    match phase {
-        Phase::Joined => true,
-        _ => false,
-    }
+    matches!(phase, Phase::Joined)
 }
 
 // The attempt of a node that was just made.
@@ -67,14 +61,12 @@ pub(crate) fn first_timeout(timeout: u64) -> bool
 fn timeout_after(count: u8, timeout: u64) -> bool
     ensures { result ≡ timeout_after count timeout }
 {
-    let mut left = count;
     let mut half = timeout;
-    while 0 < left {
+    for _ in 0..count {
         if half % 2 != 0 {
             return false;
         }
-        half = half / 2;
-        left -= 1;
+        half /= 2;
     }
     first_timeout(half)
 }
@@ -87,39 +79,32 @@ impl Attempt {
     pub const RETRANSMISSIONS: u8 = 4;
 
     // Whether the attempt may be handed in; where it may not, each call answers RANGE.
+    #[tactic(auto, unfolding(crate::specs::Attempt::valid))]
     pub fn valid(self) -> bool
         ensures { result ≡ valid self }
     {
-        if Attempt::RETRANSMISSIONS < self.count {
-            return false;
-        }
-        if self.clock < self.sent {
-            return false;
-        }
-        let phase = self.phase;
-        if is_waiting(phase) {
-            return timeout_after(self.count, self.timeout);
-        }
-        true
+        self.count <= Attempt::RETRANSMISSIONS
+            && self.sent <= self.clock
+            && (!is_waiting(self.phase) || timeout_after(self.count, self.timeout))
     }
 
     // Whether an attempt with this first timeout may start. RANGE: the attempt; CLOCK, PHASE; RANGE: the timeout.
-    pub fn may_start(self, time: u64, timeout: u64) -> Verdict
+    #[tactic(auto, unfolding(crate::specs::Attempt::may_start))]
+    pub fn may_start(self, time: u64, timeout: u64) -> Result<(), Refusal>
         ensures { result ≡ may_start self time timeout }
     {
         if !self.valid() {
-            return Verdict::Refused(Refusal::Range);
+            return Err(Refusal::Range);
         }
         if time < self.clock {
-            return Verdict::Refused(Refusal::Clock);
+            return Err(Refusal::Clock);
         }
-        let phase = self.phase;
-        if is_waiting(phase) {
-            return Verdict::Refused(Refusal::Phase);
+        if is_waiting(self.phase) {
+            return Err(Refusal::Phase);
         }
-        if first_timeout(timeout) {
-            return Verdict::Accepted;
+        if !first_timeout(timeout) {
+            return Err(Refusal::Range);
         }
-        Verdict::Refused(Refusal::Range)
+        Ok(())
     }
 }

@@ -5,7 +5,7 @@ ghost use Rattle.node_attempt.specs.delivery.Demand1.{DeliveryDemand1};
 ghost use Rattle.node_attempt.specs.delivery.Delivery.{phase_after, attempt_after, belongs, asks_identifier, may_come};
 
 use crate::attempt::{Attempt, Phase, is_joined, is_waiting};
-use refusal::{Refusal, Verdict};
+use refusal::Refusal;
 
 // A longer payload is LONG.
 const PAYLOAD_MOST: usize = 256;
@@ -31,13 +31,10 @@ impl Delivery {
     pub fn attempt_after(self, old: Attempt, time: u64) -> Attempt
         ensures { result ≡ attempt_after self old time }
     {
-        let phase = old.phase;
         Attempt {
-            phase: self.phase_after(phase),
+            phase: self.phase_after(old.phase),
             clock: time,
-            sent: old.sent,
-            timeout: old.timeout,
-            count: old.count,
+            ..old
         }
     }
 
@@ -55,30 +52,27 @@ impl Delivery {
     pub fn asks_identifier(self) -> bool
         ensures { result ≡ asks_identifier self }
     {
-        match self {
-            Delivery::JoinAnswer => true,
-            Delivery::Update => false,
-        }
+        matches!(self, Delivery::JoinAnswer)
     }
 
     // Whether a payload of so many bytes may be handed over. RANGE: the attempt; LONG, CLOCK, PHASE.
-    pub fn may_come(self, attempt: Attempt, time: u64, len: usize) -> Verdict
+    #[tactic(auto, unfolding(crate::specs::delivery::Delivery::may_come))]
+    pub fn may_come(self, attempt: Attempt, time: u64, len: usize) -> Result<(), Refusal>
         ensures { result ≡ may_come self attempt time len }
     {
         if !attempt.valid() {
-            return Verdict::Refused(Refusal::Range);
+            return Err(Refusal::Range);
         }
         if PAYLOAD_MOST < len {
-            return Verdict::Refused(Refusal::Long);
+            return Err(Refusal::Long);
         }
         if time < attempt.clock {
-            return Verdict::Refused(Refusal::Clock);
+            return Err(Refusal::Clock);
         }
-        let phase = attempt.phase;
-        if self.belongs(phase) {
-            return Verdict::Accepted;
+        if !self.belongs(attempt.phase) {
+            return Err(Refusal::Phase);
         }
-        Verdict::Refused(Refusal::Phase)
+        Ok(())
     }
 }
 

@@ -1,5 +1,6 @@
 -- Every call leaves a node that fits its image with one that does: what it changes of it fits, and all else stays. What it answers with
 -- stood in the node or was read.
+use Rattle.std.specs.Prelude.{Result, Ok, Err}
 use Prim.Native.Nat.{ℕ, ◌^◌, ◌<◌}
 use mathlib.Core.Bool.{Bool, true, false}
 use mathlib.Core.List.{List}
@@ -7,11 +8,8 @@ use native.Mathlib.Omega.{arith}
 use lib.ListN.{length}
 use Rattle.refusal.specs.declared.Refusal.{Refusal}
 use Rattle.refusal.specs.declared.Refusal.TheVariants as refusal
-use Rattle.refusal.specs.declared.Verdict.{Verdict}
-use Rattle.refusal.specs.declared.Verdict.TheVariants.{Accepted, Refused}
+use Rattle.refusal.specs.Verdict.{Verdict}
 use Rattle.byte_io.specs.Write.{answer}
-use Rattle.byte_io.specs.declared.WriteResult.{WriteResult}
-use Rattle.byte_io.specs.declared.WriteResult.TheVariants as written
 use Rattle.cojp.specs.Configuration.{with_keys}
 use Rattle.cojp.specs.ErrorReports.{no_error_reports, error_report_list}
 use Rattle.cojp.specs.KeySet.{no_keys_parameter}
@@ -85,9 +83,9 @@ keyed-fits : (n : Node) (s : KeySets) → NodeFits n → sets_part.Fit s → Nod
 keyed-fits n s f h = (f.0, (f.1.0, (h, f.1.1.1)))
 
 -- ---- starting and polling
-started-fits : (w : WriteResult) (n m : Node) → NodeFits n → NodeFits m → NodeFits (started_by w n m).node
-started-fits (written.Refused k) n m f g = f
-started-fits (written.Length l) n m f g = g
+started-fits : (w : Result ℕ Refusal) (n m : Node) → NodeFits n → NodeFits m → NodeFits (started_by w n m).node
+started-fits (Err k) n m f g = f
+started-fits (Ok l) n m f g = g
 
 start_fits : (n : Node) (time timeout : ℕ) (d : List ℕ) → Time time → Time timeout → NodeFits n → NodeFits (start n time timeout d).node
 unfolding start
@@ -135,9 +133,9 @@ receive-fits n type identifier f =
     (λ _. no-frame-key)
 
 effect-fits : (v : Verdict) (active : Bool) (s : KeySets) → sets_part.Fit s → sets_part.Fit (effect_by v active s).sets
-effect-fits (Refused k) active s f = f
-effect-fits Accepted true s f = f
-effect-fits Accepted false s f = (f.1, none-counted-fits)
+effect-fits (Err k) active s f = f
+effect-fits (Ok tt) true s f = f
+effect-fits (Ok tt) false s f = (f.1, none-counted-fits)
 
 report-node-fits : (n : Node) (type identifier : ℕ) → NodeFits n → NodeFits (frames.verified n type identifier).node
 unfolding frames.verified verified_in
@@ -171,8 +169,8 @@ without-keys : (c : Configuration) → ConfigurationFits c → ConfigurationFits
 without-keys c f = (((report-fits Discarded, no-keys-fit), f.0.1), f.1)
 
 fitted-by : (v : Verdict) (c : Configuration) → ConfigurationFits c → ConfigurationFits (fitted_by v c)
-fitted-by Accepted c f = f
-fitted-by (Refused k) c f = without-keys c f
+fitted-by (Ok tt) c f = f
+fitted-by (Err k) c f = without-keys c f
 
 fitted-fits : (v : Version) (c d : Configuration) → ConfigurationFits c → ConfigurationFits d → ConfigurationFits (by_version v c d)
 fitted-fits Draft c d f g = f
@@ -235,8 +233,8 @@ placed-fits : (v : Verdict) (d : Delivery) (n : Node) (time : ℕ) (c : Configur
     → ConfigurationFits c
     → sets_part.Fit s → DeliveredFits (placed_by v d n time c s)
 unfolding dispositions_of
-placed-fits (Refused k) d n time c s t f g h = undelivered-fits k n f
-placed-fits Accepted d n time c s t f g h =
+placed-fits (Err k) d n time c s t f g h = undelivered-fits k n f
+placed-fits (Ok tt) d n time c s t f g h =
     let r = dispositions_of (is_border n) c in (configured-fits d n time c s r t f g h, reports-so r g.1.1.1.1)
 
 apply-fits : (d : Delivery) (n : Node) (time : ℕ) (c : Configuration) → Time time → NodeFits n → ConfigurationFits c
@@ -250,15 +248,15 @@ apply-fits d n time c t f g =
 read_fits : (v : Verdict) (d : Delivery) (n : Node) (time : ℕ) (c : Configuration) → Time time → NodeFits n → ConfigurationFits c
     → DeliveredFits (apply_read v d n time c)
 unfolding fitted
-read_fits (Refused k) d n time c t f g = undelivered-fits k n f
-read_fits Accepted d n time c t f g =
+read_fits (Err k) d n time c t f g = undelivered-fits k n f
+read_fits (Ok tt) d n time c t f g =
     apply-fits d n time (fitted n c) t f
     (fitted-fits n.version c (fitted_by (placement_of n c.keys).verdict c) g (fitted-by (placement_of n c.keys).verdict c g))
 
 deliver-by : (v : Verdict) (d : Delivery) (n : Node) (time : ℕ) (r : ConfigurationRead) → Time time → NodeFits n
     → ConfigurationFits r.configuration → DeliveredFits (deliver_by v d n time r)
-deliver-by (Refused k) d n time r t f g = undelivered-fits k n f
-deliver-by Accepted d n time r t f g = read_fits r.verdict d n time r.configuration t f g
+deliver-by (Err k) d n time r t f g = undelivered-fits k n f
+deliver-by (Ok tt) d n time r t f g = read_fits r.verdict d n time r.configuration t f g
 
 deliver-fits : (d : Delivery) (n : Node) (time : ℕ) (payload : List ℕ) → Time time → ConfigurationFits (read_for n payload).configuration
     → NodeFits n
@@ -267,21 +265,21 @@ unfolding deliver
 deliver-fits d n time payload t r f = deliver-by (deliver_verdict d n time (length payload)) d n time (read_for n payload) t f r
 
 -- ---- answers that are no struct
-due-fits : (d : Due) → AnswerFits (due_object d)
-due-fits (due.Refused k) = tt
-due-fits due.NotYet = tt
-due-fits due.SendAgain = tt
-due-fits due.GaveUp = tt
+due-fits : (d : Result Due Refusal) → AnswerFits (due_object d)
+due-fits (Err k) = tt
+due-fits (Ok due.NotYet) = tt
+due-fits (Ok due.SendAgain) = tt
+due-fits (Ok due.GaveUp) = tt
 
-holding-fits : (h : LeaseStatus) → AnswerFits (holding_object h)
-holding-fits (holding.Refused k) = tt
-holding-fits holding.Valid = tt
-holding-fits holding.Expired = tt
+holding-fits : (h : Result LeaseStatus Refusal) → AnswerFits (holding_object h)
+holding-fits (Err k) = tt
+holding-fits (Ok holding.Valid) = tt
+holding-fits (Ok holding.Expired) = tt
 
-change-fits : (c : Change) → AnswerFits (change_object c)
-change-fits (change.Refused k) = tt
-change-fits change.Switched = tt
-change-fits change.Kept = tt
+change-fits : (c : Result Change Refusal) → AnswerFits (change_object c)
+change-fits (Err k) = tt
+change-fits (Ok change.Switched) = tt
+change-fits (Ok change.Kept) = tt
 
 -- ---- every call: the node after it, and what it answers
 abbrev PerformedFits : Performed → Type 0

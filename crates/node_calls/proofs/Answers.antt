@@ -1,5 +1,6 @@
 -- One law to a kind of answer, over any call: no image is RANGE, and else the answer is what was performed; a refused call's object is the
 -- empty one, so its value is 0.
+use Rattle.std.specs.Prelude.{Ok, Err}
 use Prim.Native.Nat.{ℕ}
 use mathlib.Core.Path.{◌≡◌, refl, ap, ◌∙◌}
 use mathlib.Core.Bool.{true, false}
@@ -9,8 +10,7 @@ use lib.ListN.{length, replicate}
 use Rattle.refusal.specs.Refusal.{number_of}
 use Rattle.refusal.specs.Verdict.{verdict_number}
 use Rattle.refusal.specs.declared.Refusal.{Refusal}
-use Rattle.refusal.specs.declared.Verdict.{Verdict}
-use Rattle.refusal.specs.declared.Verdict.TheVariants.{Accepted, Refused}
+use Rattle.refusal.specs.Verdict.{Verdict}
 use Rattle.image.specs.Effects.{on_accept}
 use Rattle.image.proofs.Lent.{hands-unfit, hands_none, hands-told}
 use Rattle.image.specs.Part.{is_image}
@@ -22,7 +22,7 @@ use Rattle.node_calls.specs.Calls.{performed_in, Tells, Does, Starts, Gives, Cha
 use Rattle.node_calls.specs.Results.{value_of, struct_of}
 
 -- the number of a refusal
-pub numbered : (v : Verdict) (k : Refusal) {r : ℕ} → v ≡ Refused k → r ≡ number_of k → r ≡ verdict_number v
+pub numbered : (v : Verdict) (k : Refusal) {r : ℕ} → v ≡ Err k → r ≡ number_of k → r ≡ verdict_number v
 numbered v k e f = rw e f
 
 empty-value : (c : NodeCall) → value_of (empty_object c) ≡ 0
@@ -37,13 +37,13 @@ empty-value (reporting type identifier) = refl
 module _ (demand1 : Demand1) where
   value-left : (c : NodeCall) (n : Node) (v : Verdict) → (perform c n).verdict ≡ v
       → value_of (perform c n).object ≡ on_accept v 0 (value_of (perform c n).object)
-  value-left c n Accepted e = refl
-  value-left c n (Refused k) e = ap value_of (demand1.calls c n k e).object ∙ empty-value c
+  value-left c n (Ok tt) e = refl
+  value-left c n (Err k) e = ap value_of (demand1.calls c n k e).object ∙ empty-value c
 
   lent-left : (time timeout : ℕ) (d : List ℕ) (n : Node) (v : Verdict) → (perform (starting time timeout d) n).verdict ≡ v
       → (perform (starting time timeout d) n).lent ≡ on_accept v d (perform (starting time timeout d) n).lent
-  lent-left time timeout d n Accepted e = refl
-  lent-left time timeout d n (Refused k) e = (demand1.calls (starting time timeout d) n k e).lent
+  lent-left time timeout d n (Ok tt) e = refl
+  lent-left time timeout d n (Err k) e = (demand1.calls (starting time timeout d) n k e).lent
 
 -- ---- a call whose result is a number
 module _ (c : NodeCall) (s : List ℕ) where

@@ -1,4 +1,5 @@
 -- What each node call answers is what `perform` says of it.
+use Rattle.std.specs.Prelude.{Result, Ok, Err}
 use Prim.Native.Nat.{ℕ, zero, suc, ◌<◌, ◌≤◌}
 use mathlib.Core.Path.{◌≡◌, refl, ap, ap₂, sym, ◌∙◌}
 use mathlib.Core.Bool.{Bool, true, false, ◌&&◌, and-false}
@@ -10,7 +11,7 @@ use Rattle.refusal.specs.Refusal.{number_of}
 use Rattle.refusal.specs.Verdict.{verdict_number}
 use Rattle.refusal.specs.declared.Refusal.{Refusal}
 use Rattle.refusal.specs.declared.Refusal.TheVariants.{Range}
-use Rattle.refusal.specs.declared.Verdict.{Verdict}
+use Rattle.refusal.specs.Verdict.{Verdict}
 use Rattle.image.specs.Effects.{on_accept}
 use Rattle.image.proofs.Lent.{hands-told}
 use Rattle.image.specs.Part.{is_image}
@@ -48,28 +49,28 @@ use Rattle.node_calls.proofs.Answers.{tells_none, does-none, tells, does, starts
 use Rattle.capi_node.specs.Calls.{node_in, due_in, holds_in, change_in, ReceivesIn, SendsIn}
 
 -- ---- codes
-due-value : (d : Due) → due_code d ≡ value_of (due_object d)
-due-value (due.Refused k) = refl
-due-value due.NotYet = refl
-due-value due.SendAgain = refl
-due-value due.GaveUp = refl
+due-value : (d : Result Due Refusal) → due_code d ≡ value_of (due_object d)
+due-value (Err k) = refl
+due-value (Ok due.NotYet) = refl
+due-value (Ok due.SendAgain) = refl
+due-value (Ok due.GaveUp) = refl
 
-holding-value : (h : LeaseStatus) → lease_status_code h ≡ value_of (holding_object h)
-holding-value (holding.Refused k) = refl
-holding-value holding.Valid = refl
-holding-value holding.Expired = refl
+holding-value : (h : Result LeaseStatus Refusal) → lease_status_code h ≡ value_of (holding_object h)
+holding-value (Err k) = refl
+holding-value (Ok holding.Valid) = refl
+holding-value (Ok holding.Expired) = refl
 
-holding-number : (h : LeaseStatus) → holding_number h ≡ verdict_number (holding_verdict h)
-holding-number (holding.Refused k) = refl
-holding-number holding.Valid = refl
-holding-number holding.Expired = refl
+holding-number : (h : Result LeaseStatus Refusal) → holding_number h ≡ verdict_number (holding_verdict h)
+holding-number (Err k) = refl
+holding-number (Ok holding.Valid) = refl
+holding-number (Ok holding.Expired) = refl
 
-change-value : (c : Change) → change_code c ≡ value_of (change_object c)
-change-value (change.Refused k) = refl
-change-value change.Switched = refl
-change-value change.Kept = refl
+change-value : (c : Result Change Refusal) → change_code c ≡ value_of (change_object c)
+change-value (Err k) = refl
+change-value (Ok change.Switched) = refl
+change-value (Ok change.Kept) = refl
 
-pub holding-refused : (h : LeaseStatus) (k : Refusal) {r : ℕ} → h ≡ holding.Refused k → r ≡ number_of k
+pub holding-refused : (h : Result LeaseStatus Refusal) (k : Refusal) {r : ℕ} → h ≡ Err k → r ≡ number_of k
     → (r ≡ holding_number h) × (0 ≡ lease_status_code h)
 holding-refused h k e f = rw e (f, refl)
 
@@ -147,7 +148,7 @@ module _ (s : List ℕ) (image : is_image node_image s ≡ true) where
 -- ---- calls on the image: RANGE where there is none, else the node's own answer
 module _ (demand1 : Demand1) (s : List ℕ) where
   module _ (time : ℕ) where
-    polled-by : (b : Bool) → is_image node_image s ≡ b → (x : Due) {v : Verdict} {r w : ℕ} {s' : List ℕ} → x ≡ due_in s time
+    polled-by : (b : Bool) → is_image node_image s ≡ b → (x : Result Due Refusal) {v : Verdict} {r w : ℕ} {s' : List ℕ} → x ≡ due_in s time
         → v ≡ due_verdict x → w ≡ due_code x → r ≡ verdict_number v → s' ≡ on_accept (due_verdict x) s (node_image.put (poll (node_in s) time).node)
         → Does (calls.polling time) s r s' w
     unfolding perform
@@ -155,22 +156,22 @@ module _ (demand1 : Demand1) (s : List ℕ) where
         let own : x ≡ (poll (node_in s) time).due = says ∙ rw image in
         does (calls.polling time) s demand1 image
         (f ∙ ap verdict_number (e ∙ ap due_verdict own))
-        (h ∙ ap (λ (y : Due). on_accept (due_verdict y) s (node_image.put (poll (node_in s) time).node)) own)
+        (h ∙ ap (λ (y : Result Due Refusal). on_accept (due_verdict y) s (node_image.put (poll (node_in s) time).node)) own)
         (g ∙ ap due_code own ∙ due-value (poll (node_in s) time).due)
     polled-by false image x says e g f h =
-        let none : x ≡ due.Refused Range = says ∙ rw image in
+        let none : x ≡ Err Range = says ∙ rw image in
         rw (
           f ∙ ap verdict_number (e ∙ ap due_verdict none),
           g ∙ ap due_code none,
-          h ∙ ap (λ (y : Due). on_accept (due_verdict y) s (node_image.put (poll (node_in s) time).node)) none,
+          h ∙ ap (λ (y : Result Due Refusal). on_accept (due_verdict y) s (node_image.put (poll (node_in s) time).node)) none,
         )
         (does-none (calls.polling time) s image)
 
-    pub polled : (x : Due) {v : Verdict} {r w : ℕ} {s' : List ℕ} → x ≡ due_in s time → v ≡ due_verdict x → w ≡ due_code x
+    pub polled : (x : Result Due Refusal) {v : Verdict} {r w : ℕ} {s' : List ℕ} → x ≡ due_in s time → v ≡ due_verdict x → w ≡ due_code x
         → r ≡ verdict_number v → s' ≡ on_accept (due_verdict x) s (node_image.put (poll (node_in s) time).node) → Does (calls.polling time) s r s' w
     polled x = polled-by (is_image node_image s) refl x
 
-    asked_by : (b : Bool) → is_image node_image s ≡ b → (x : LeaseStatus) {r w : ℕ} → x ≡ holds_in s time → r ≡ holding_number x
+    asked_by : (b : Bool) → is_image node_image s ≡ b → (x : Result LeaseStatus Refusal) {r w : ℕ} → x ≡ holds_in s time → r ≡ holding_number x
         → w ≡ lease_status_code x → Tells (calls.asking time) s r w
     unfolding perform
     asked_by true image x says f g =
@@ -179,10 +180,10 @@ module _ (demand1 : Demand1) (s : List ℕ) where
         (f ∙ ap holding_number own ∙ holding-number (holds (node_in s) time))
         (g ∙ ap lease_status_code own ∙ holding-value (holds (node_in s) time))
     asked_by false image x says f g =
-        let none : x ≡ holding.Refused Range = says ∙ rw image in
+        let none : x ≡ Err Range = says ∙ rw image in
         rw (f ∙ ap holding_number none, g ∙ ap lease_status_code none) (tells_none (calls.asking time) s image)
 
-    pub asked : (x : LeaseStatus) {r w : ℕ} → x ≡ holds_in s time → r ≡ holding_number x → w ≡ lease_status_code x
+    pub asked : (x : Result LeaseStatus Refusal) {r w : ℕ} → x ≡ holds_in s time → r ≡ holding_number x → w ≡ lease_status_code x
         → Tells (calls.asking time) s r w
     asked x = asked_by (is_image node_image s) refl x
 
@@ -190,7 +191,7 @@ module _ (demand1 : Demand1) (s : List ℕ) where
     abbrev reported_node : List ℕ
     reported_node = node_image.put (verified (node_in s) type identifier).node
 
-    reported-by : (b : Bool) → is_image node_image s ≡ b → (x : Change) {v : Verdict} {r w : ℕ} {s' : List ℕ}
+    reported-by : (b : Bool) → is_image node_image s ≡ b → (x : Result Change Refusal) {v : Verdict} {r w : ℕ} {s' : List ℕ}
         → x ≡ change_in s type identifier → v ≡ change_verdict x → w ≡ change_code x → r ≡ verdict_number v
         → s' ≡ on_accept (change_verdict x) s reported_node
         → Does (calls.reporting type identifier) s r s' w
@@ -199,18 +200,18 @@ module _ (demand1 : Demand1) (s : List ℕ) where
         let own : x ≡ (verified (node_in s) type identifier).change = says ∙ rw image in
         does (calls.reporting type identifier) s demand1 image
         (f ∙ ap verdict_number (e ∙ ap change_verdict own))
-        (h ∙ ap (λ (y : Change). on_accept (change_verdict y) s reported_node) own)
+        (h ∙ ap (λ (y : Result Change Refusal). on_accept (change_verdict y) s reported_node) own)
         (g ∙ ap change_code own ∙ change-value (verified (node_in s) type identifier).change)
     reported-by false image x says e g f h =
-        let none : x ≡ change.Refused Range = says ∙ rw image in
+        let none : x ≡ Err Range = says ∙ rw image in
         rw (
           f ∙ ap verdict_number (e ∙ ap change_verdict none),
           g ∙ ap change_code none,
-          h ∙ ap (λ (y : Change). on_accept (change_verdict y) s reported_node) none,
+          h ∙ ap (λ (y : Result Change Refusal). on_accept (change_verdict y) s reported_node) none,
         )
         (does-none (calls.reporting type identifier) s image)
 
-    pub reported : (x : Change) {v : Verdict} {r w : ℕ} {s' : List ℕ} → x ≡ change_in s type identifier → v ≡ change_verdict x
+    pub reported : (x : Result Change Refusal) {v : Verdict} {r w : ℕ} {s' : List ℕ} → x ≡ change_in s type identifier → v ≡ change_verdict x
         → w ≡ change_code x
         → r ≡ verdict_number v → s' ≡ on_accept (change_verdict x) s reported_node → Does (calls.reporting type identifier) s r s' w
     reported x = reported-by (is_image node_image s) refl x

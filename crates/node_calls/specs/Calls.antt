@@ -2,7 +2,7 @@
 -- image, or a struct that is handed back has not its size.
 use Rattle.std.specs.Prelude.{ℕ, true, cond, ◌&&◌, List, ◌≡◌, leb, eqb, length}
 use Rattle.refusal.specs.Verdict.{verdict_number}
-use Rattle.refusal.specs.declared.Verdict.{Verdict}
+use Rattle.refusal.specs.Verdict.{Verdict}
 use Rattle.image.specs.Effects.{on_accept, checked_first, hand_verdict, ResultSpec}
 use Rattle.image.specs.Part.{is_image}
 use Rattle.cojp.specs.Octets.{copied_from}

@@ -1,5 +1,6 @@
 -- What a node's calls hand back to C beside their number: a code, a length, or a struct.
-use Rattle.std.specs.Prelude.{ℕ, List, []}
+use Rattle.refusal.specs.declared.Refusal.{Refusal}
+use Rattle.std.specs.Prelude.{ℕ, List, [], Result, Ok, Err}
 use Rattle.node.specs.declared.lease.LeaseStatus.{LeaseStatus}
 use Rattle.node.specs.declared.lease.LeaseStatus.TheVariants as holding
 use Rattle.node_attempt.specs.declared.poll.Due.{Due}
@@ -10,21 +11,21 @@ use Rattle.node_key_sets.specs.declared.frames.Change.TheVariants as change
 use Rattle.node_laws.specs.Calls.{Object, nothing, written, step, reports, state, key, counted, effect}
 
 -- codes begin at 1, so that 0 is never an answer
-abbrev pub due_code : Due → ℕ
-due_code (due.Refused k) = 0
-due_code due.NotYet = 1
-due_code due.SendAgain = 2
-due_code due.GaveUp = 3
+abbrev pub due_code : Result Due Refusal → ℕ
+due_code (Err k) = 0
+due_code (Ok due.NotYet) = 1
+due_code (Ok due.SendAgain) = 2
+due_code (Ok due.GaveUp) = 3
 
-abbrev pub lease_status_code : LeaseStatus → ℕ
-lease_status_code (holding.Refused k) = 0
-lease_status_code holding.Valid = 1
-lease_status_code holding.Expired = 2
+abbrev pub lease_status_code : Result LeaseStatus Refusal → ℕ
+lease_status_code (Err k) = 0
+lease_status_code (Ok holding.Valid) = 1
+lease_status_code (Ok holding.Expired) = 2
 
-abbrev pub change_code : Change → ℕ
-change_code (change.Refused k) = 0
-change_code change.Kept = 1
-change_code change.Switched = 2
+abbrev pub change_code : Result Change Refusal → ℕ
+change_code (Err k) = 0
+change_code (Ok change.Kept) = 1
+change_code (Ok change.Switched) = 2
 
 -- a result that is a number: how many bytes a start wrote, or a code; 0 where the result is a struct
 abbrev pub value_of : Object → ℕ

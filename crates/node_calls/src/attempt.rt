@@ -4,11 +4,12 @@ ghost use Rattle.node_laws.specs.Calls.{polling};
 ghost use Rattle.node_calls.specs.Calls.{Does, Starts};
 ghost use Rattle.node_calls.specs.Results.{due_code};
 
-use crate::store::{store_attempt, verdict_number};
+use crate::store::store_attempt;
 use capi_node::poll_in;
-use image::RANGE;
+use image::{RANGE, number_of};
 use node_attempt::Due;
 use node_image::{is_node, node_in};
+use refusal::{Refusal, verdict_of};
 
 // Starts a join attempt: the join request goes to `dst`.
 pub fn node_start(node: &mut [u8], time: u64, timeout: u64, dst: &mut [u8], length: &mut u64) -> u32
@@ -22,20 +23,18 @@ pub fn node_start(node: &mut [u8], time: u64, timeout: u64, dst: &mut [u8], leng
         return RANGE;
     }
     let started = node_in(node).start(dst, time, timeout);
-    let verdict = started.verdict;
-    let after = started.node;
     *length = started.length as u64;
-    store_attempt(verdict, after, node)
+    store_attempt(started.verdict, started.node, node)
 }
 
-fn due_code(due: Due) -> u32
+fn due_code(due: Result<Due, Refusal>) -> u32
     ensures { result ≡ due_code due }
 {
     match due {
-        Due::Refused(_) => 0,
-        Due::NotYet => 1,
-        Due::SendAgain => 2,
-        Due::GaveUp => 3,
+        Err(_) => 0,
+        Ok(Due::NotYet) => 1,
+        Ok(Due::SendAgain) => 2,
+        Ok(Due::GaveUp) => 3,
     }
 }
 
@@ -46,5 +45,5 @@ pub fn node_poll(node: &mut [u8], time: u64, due: &mut u32) -> u32
     node_laws::demand1();
     let step = poll_in(node, time);
     *due = due_code(step);
-    verdict_number(step.verdict())
+    number_of(verdict_of(step))
 }

@@ -14,6 +14,5 @@ pub(crate) fn put_node_attempt(dst: &mut [u8], node: Node)
     ensures { dst.new ≡ node_image.put node }
 {
     node_image::laws();
-    let attempt = node.attempt;
-    put_attempt(&mut dst[3..], attempt);
+    put_attempt(&mut dst[3..], node.attempt);
 }

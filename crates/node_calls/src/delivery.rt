@@ -10,7 +10,7 @@ ghost use Rattle.node_calls.specs.Calls.{Changes};
 
 use crate::store::{store_dispositions, store_node};
 use image::{RANGE, clear};
-use node::DeliveryResult;
+use node::{Delivery, DeliveryResult};
 use node_image::{is_node, node_in};
 
 // The reports as a result, and the node after it.
@@ -21,11 +21,32 @@ fn store_delivery(done: DeliveryResult, node: &mut [u8], reports: &mut [u8]) -> 
     ensures reports { reports.new
         ≡ on_accept done.verdict (replicate 17 0) (dispositions_image.put done.dispositions) }
 {
-    let verdict = done.verdict;
-    let told = done.dispositions;
-    let after = done.node;
-    store_dispositions(verdict, told, reports);
-    store_node(verdict, after, node)
+    store_dispositions(done.verdict, done.dispositions, reports);
+    store_node(done.verdict, done.node, node)
+}
+
+// A payload with a configuration, taken as what it is delivered as.
+fn deliver(
+    node: &mut [u8],
+    delivery: Delivery,
+    time: u64,
+    payload: &[u8],
+    reports: &mut [u8],
+) -> u32
+    ensures { Changes 17 (delivering delivery time payload.now) node.old reports.old result node.new reports.new }
+{
+    if reports.len() != 17 {
+        return RANGE;
+    }
+    if !is_node(node) {
+        clear(reports);
+        return RANGE;
+    }
+    let held = node_in(node);
+    match delivery {
+        Delivery::JoinAnswer => store_delivery(held.join_answer(time, payload), node, reports),
+        Delivery::Update => store_delivery(held.update(time, payload), node, reports),
+    }
 }
 
 // A join answer.
@@ -33,15 +54,7 @@ pub fn node_answer(node: &mut [u8], time: u64, payload: &[u8], reports: &mut [u8
     ensures { Changes 17 (delivering delivery.JoinAnswer time payload.now) node.old reports.old result
         node.new reports.new }
 {
-    if reports.len() != 17 {
-        return RANGE;
-    }
-    if !is_node(node) {
-        clear(reports);
-        return RANGE;
-    }
-    let done = node_in(node).join_answer(time, payload);
-    store_delivery(done, node, reports)
+    deliver(node, Delivery::JoinAnswer, time, payload, reports)
 }
 
 // A parameter update.
@@ -49,13 +62,5 @@ pub fn node_update(node: &mut [u8], time: u64, payload: &[u8], reports: &mut [u8
     ensures { Changes 17 (delivering delivery.Update time payload.now) node.old reports.old result
         node.new reports.new }
 {
-    if reports.len() != 17 {
-        return RANGE;
-    }
-    if !is_node(node) {
-        clear(reports);
-        return RANGE;
-    }
-    let done = node_in(node).update(time, payload);
-    store_delivery(done, node, reports)
+    deliver(node, Delivery::Update, time, payload, reports)
 }

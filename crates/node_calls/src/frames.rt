@@ -4,9 +4,10 @@ ghost use Rattle.node_laws.specs.Calls.{sending, receiving, reporting};
 ghost use Rattle.node_calls.specs.Calls.{Does, Gives, Changes};
 ghost use Rattle.node_calls.specs.Results.{change_code};
 
-use crate::store::verdict_number;
 use capi_node::{receive_in, send_in, verified_in};
+use image::number_of;
 use node_key_sets::Change;
+use refusal::{Refusal, verdict_of};
 
 // The key to send a frame with, and its counter, which rises by one in the node.
 pub fn node_send(node: &mut [u8], frame_type: u8, key: &mut [u8]) -> u32
@@ -22,13 +23,13 @@ pub fn node_receive(node: &[u8], frame_type: u8, identifier: u8, key: &mut [u8])
     receive_in(node, frame_type, identifier, key)
 }
 
-fn change_code(change: Change) -> u32
+fn change_code(change: Result<Change, Refusal>) -> u32
     ensures { result ≡ change_code change }
 {
     match change {
-        Change::Refused(_) => 0,
-        Change::Switched => 2,
-        Change::Kept => 1,
+        Err(_) => 0,
+        Ok(Change::Switched) => 2,
+        Ok(Change::Kept) => 1,
     }
 }
 
@@ -39,5 +40,5 @@ pub fn node_verified(node: &mut [u8], frame_type: u8, identifier: u8, change: &m
     node_laws::demand1();
     let what = verified_in(node, frame_type, identifier);
     *change = change_code(what);
-    verdict_number(what.verdict())
+    number_of(verdict_of(what))
 }

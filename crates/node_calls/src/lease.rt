@@ -7,21 +7,22 @@ ghost use Rattle.node_calls.specs.Results.{lease_status_code};
 
 use capi_node::address_holds_in;
 use node::LeaseStatus;
+use refusal::Refusal;
 
-fn store_lease_status(holding: LeaseStatus, holds: &mut u32) -> u32
+fn store_lease_status(holding: Result<LeaseStatus, Refusal>, holds: &mut u32) -> u32
     ensures number { result ≡ holding_number holding }
     ensures holds { holds.new ≡ lease_status_code holding }
 {
     match holding {
-        LeaseStatus::Refused(why) => {
+        Err(why) => {
             *holds = 0;
             why.number() as u32
         }
-        LeaseStatus::Valid => {
+        Ok(LeaseStatus::Valid) => {
             *holds = 1;
             0
         }
-        LeaseStatus::Expired => {
+        Ok(LeaseStatus::Expired) => {
             *holds = 2;
             0
         }

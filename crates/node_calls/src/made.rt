@@ -30,10 +30,12 @@ fn made_of(form: u8, role: u8, has_network: u8, network: &[u8]) -> MakeResult
     ensures { result ≡ made_of form role has_network network.now }
 {
     let held = network_of(has_network, network);
-    if form == 0 {
-        return Node::new(Version::Draft, role, held);
-    }
-    Node::new(Version::Published, role, held)
+    let version = if form == 0 {
+        Version::Draft
+    } else {
+        Version::Published
+    };
+    Node::new(version, role, held)
 }
 
 // Makes a node. RANGE: form, role or has_network over 1, a network identifier over 16 bytes.
@@ -52,7 +54,5 @@ pub fn node_make(form: u8, role: u8, has_network: u8, network: &[u8], node: &mut
         return RANGE;
     }
     let made = made_of(form, role, has_network, network);
-    let verdict = made.verdict;
-    let fresh = made.node;
-    store_result_node(verdict, fresh, node)
+    store_result_node(made.verdict, made.node, node)
 }

@@ -10,7 +10,7 @@ use lib.ListN.{take, drop, get_or}
 use lib.Seq.{drop-drop, get_or-drop}
 use Rattle.byte_io.specs.Write.{Wrote}
 use Rattle.byte_io.specs.BigEndian.{big_endian, bytes_of}
-use Rattle.image.specs.Fields.{and-good, four-fields}
+use Rattle.image.specs.Fields.{four-fields}
 use Rattle.image.specs.CodecLaws.{byte-lawful, number-lawful, both-lawful, viewed-lawful, code-lawful}
 use Rattle.image.specs.Part.{RoundTrips}
 use Rattle.node_attempt.specs.Attempt.{attempt}
@@ -21,11 +21,6 @@ use Rattle.node_image.specs.PlaceLemmas.{first-at}
 use Rattle.node_image.specs.Attempt.{phase_number, phase_of, phase_part, attempt_fields, attempt_to, attempt_from, attempt_part}
 
 -- ---- the phase
-pub gave-up : (b : ℕ) → (b ≡ 0 → ⊥) → (b ≡ 1 → ⊥) → (b ≡ 2 → ⊥) → GaveUp ≡ phase_of b
-gave-up zero h i j = absurd (h refl)
-gave-up (suc zero) h i j = absurd (i refl)
-gave-up (suc (suc zero)) h i j = absurd (j refl)
-gave-up (suc (suc (suc n))) h i j = refl
 
 phase-again : (p : Phase) → phase_of (phase_number p) ≡ p
 phase-again Idle = refl
@@ -43,8 +38,6 @@ phase-lawful : RoundTrips phase_part
 phase-lawful = code-lawful phase_number phase_of 3 phase-again phase-undone
 
 -- ---- the attempt
-pub by-phase : (s : List ℕ) (at : ℕ) → leb (get_or s at 0) 3 ≡ attempt_part.good (drop at s)
-by-phase s at = rw (first-at s at) (and-good (leb (get_or s at 0) 3))
 
 pub attempt-got : (s : List ℕ) (at : ℕ) {p : Phase} {a b c : ℕ} → p ≡ phase_of (get_or s at 0) → a ≡ big_endian (take 8 (drop (at + 1) s))
     → b ≡ big_endian (take 8 (drop (at + 9) s)) → c ≡ big_endian (take 8 (drop (at + 17) s))

@@ -3,14 +3,12 @@ use Prim.Native.Nat.{ℕ}
 use mathlib.Core.Bool.{Bool, true, false, ◌&&◌}
 use mathlib.Core.List.{List, [], ◌∷◌, ◌++◌}
 use mathlib.Core.Path.{◌≡◌, refl, ap, sym, ◌∙◌}
-use borrow.Author.Tests.{eqb-true}
 use lib.Dec.{eqb}
 use lib.ListN.{length, drop}
 use lib.Seq.{drop-drop}
 use Rattle.byte_io.specs.Write.{Wrote}
 use Rattle.image.specs.Fields.{whole-struct, four-fields}
 use Rattle.image.specs.Part.{both, is_headed, is_image}
-use Rattle.lemmas.specs.logic.Tests.{both_left}
 use Rattle.node.specs.declared.node.Node.{Node}
 use Rattle.object_image.specs.Codes.{bool_part}
 use Rattle.node_image.specs.PlaceLemmas.{next-good, not_good, held-good, then-good, then-not, pair-good, pair-not}
@@ -70,9 +68,6 @@ module _ (s : List ℕ) where
   -- ---- the node
   abbrev Head : Bool
   Head = (eqb (length s) 878 && is_headed 0x4e s)
-
-  pub node-long : Head ≡ true → length s ≡ 878
-  node-long e = eqb-true (length s) 878 (both_left (eqb (length s) 878) (is_headed 0x4e s) e)
 
   -- the role is good, whatever it is
   after-role : {x : Bool} → x ≡ (both attempt_part (both sets_part held_fields)).good (drop 3 s) → x ≡ node_fields.good (drop 2 s)

@@ -1,12 +1,11 @@
 -- Each call leaves a node that is the former one, or that one with another part.
+use Rattle.std.specs.Prelude.{Result, Ok, Err}
 use Prim.Native.Nat.{ℕ}
 use mathlib.Core.Bool.{Bool, true, false, cond}
 use mathlib.Core.List.{List}
 use mathlib.Core.Option.{Option, none, some}
 use mathlib.Core.Path.{refl}
 use Rattle.byte_io.specs.Write.{answer}
-use Rattle.byte_io.specs.declared.WriteResult.{WriteResult}
-use Rattle.byte_io.specs.declared.WriteResult.TheVariants as written
 use Rattle.link_key_counters.specs.Counters.{Slot, taken_counter_on, take_counter, first_serving}
 use Rattle.node.specs.Frames as frames
 use Rattle.node.specs.Frames.{sent_by, unsent}
@@ -18,18 +17,17 @@ use Rattle.node_key_sets.specs.Frames as sets
 use Rattle.node_key_sets.specs.declared.frames.SendKeyResult.{SendKeyResult}
 use Rattle.link_key.specs.usage.Usage.{known_type}
 use Rattle.node_attempt.specs.declared.poll.Due.{Due}
-use Rattle.node_attempt.specs.declared.poll.Due.TheVariants.{Refused}
 use Rattle.refusal.specs.declared.Refusal.{Refusal}
 use Rattle.refusal.specs.declared.Refusal.TheVariants.{Range}
 use Rattle.node_image.specs.Change.{Attempted, Recounted, NodeChanges}
 
-by-poll : (n : Node) (b : Bool) (x : PollResult) (k : Due) → Attempted n x.node → Attempted n (cond b x (polled k n)).node
+by-poll : (n : Node) (b : Bool) (x : PollResult) (k : Result Due Refusal) → Attempted n x.node → Attempted n (cond b x (polled k n)).node
 by-poll n true x k e = e
 by-poll n false x k e = refl
 
-by-start : (n : Node) (w : WriteResult) (m : Node) → Attempted n m → Attempted n (started_by w n m).node
-by-start n (written.Refused k) m e = refl
-by-start n (written.Length l) m e = e
+by-start : (n : Node) (w : Result ℕ Refusal) (m : Node) → Attempted n m → Attempted n (started_by w n m).node
+by-start n (Err k) m e = refl
+by-start n (Ok l) m e = e
 
 by-spend : (n : Node) (o : Option Slot) → Recounted n (sent_by n (sets.sent_with n.sets (taken_counter_on n.sets.active o))).node
 by-spend n none = refl
@@ -46,7 +44,7 @@ by-send n false x e = refl
 
 pub poll-changes : (n : Node) (time : ℕ) → Attempted n (poll n time).node
 unfolding poll
-poll-changes n time = by-poll n (valid n) _ (Refused Range) refl
+poll-changes n time = by-poll n (valid n) _ (Err Range) refl
 
 pub start-changes : (n : Node) (time timeout : ℕ) (d : List ℕ) → Attempted n (start n time timeout d).node
 unfolding start

@@ -59,16 +59,21 @@ pub fn put_dispositions(dst: &mut [u8], reports: Dispositions)
     requires { length dst.old ≡ 17 }
     ensures { dst.new ≡ dispositions_image.put reports }
 {
-    let keys = reports.keys;
-    let address = reports.address;
-    let jrc = reports.jrc;
-    let network = reports.network;
-    let prefix = reports.prefix;
-    let blacklist = reports.blacklist;
-    let rate = reports.rate;
     put_head(dst, DISPOSITIONS_KIND);
-    put_first(&mut dst[2..], keys, address, jrc, network);
-    put_later(&mut dst[6..], prefix, blacklist, rate, reports.unknown);
+    put_first(
+        &mut dst[2..],
+        reports.keys,
+        reports.address,
+        reports.jrc,
+        reports.network,
+    );
+    put_later(
+        &mut dst[6..],
+        reports.prefix,
+        reports.blacklist,
+        reports.rate,
+        reports.unknown,
+    );
 }
 
 // Stores a frame's key and its counter.

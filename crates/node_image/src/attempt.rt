@@ -1,24 +1,14 @@
 // A join attempt in an image.
 ghost use Rattle.std.specs.Prelude.{◌≡◌, ◌+◌, ◌≤◌, length, drop};
 ghost use Rattle.byte_io.specs.Write.{Wrote};
-ghost use Rattle.node_image.specs.Attempt.{phase_number, phase_of, attempt_part};
+ghost use Rattle.node_image.specs.Attempt.{phase_of, attempt_part};
 
 use image::{number_at, put_byte, put_number};
 use node_attempt::{Attempt, Phase};
 
 const MOST_PHASE: u8 = 3;
 
-fn phase_number(phase: Phase) -> u8
-    ensures { result ≡ phase_number phase }
-{
-    match phase {
-        Phase::Idle => 0,
-        Phase::Waiting => 1,
-        Phase::Joined => 2,
-        Phase::GaveUp => 3,
-    }
-}
-
+// Kept: total, since `phase_part.get` gives a byte over 3, which no image has, a meaning too.
 fn phase_of(b: u8) -> Phase
     ensures { result ≡ phase_of b }
 {
@@ -57,8 +47,7 @@ pub fn put_attempt(dst: &mut [u8], attempt: Attempt)
     requires { 26 ≤ length dst.old }
     ensures { Wrote (attempt_part.put attempt) dst.old 26 dst.new }
 {
-    let phase = attempt.phase;
-    put_byte(dst, phase_number(phase));
+    put_byte(dst, attempt.phase as u8);
     put_number(&mut dst[1..], 8, attempt.clock);
     put_number(&mut dst[9..], 8, attempt.sent);
     put_number(&mut dst[17..], 8, attempt.timeout);

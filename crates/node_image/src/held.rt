@@ -10,6 +10,8 @@ use object_image::{
     put_short_address, short_address_at,
 };
 
+// Kept: a flag beside a value, not an Option: an image whose flag is 0 keeps the value's bytes (NodeImages, `back` of RoundTrips).
+
 // The byte string at a place.
 pub fn held_octets_at(src: &[u8], at: usize) -> HeldOctets
     requires { at + 18 ≤ length src.now }
@@ -26,9 +28,8 @@ pub fn put_held_octets(dst: &mut [u8], octets: HeldOctets)
     requires { 18 ≤ length dst.old }
     ensures { Wrote (held_octets_part.put octets) dst.old 18 dst.new }
 {
-    let value = octets.value;
     put_bool(dst, octets.held);
-    put_octets(&mut dst[1..], value);
+    put_octets(&mut dst[1..], octets.value);
 }
 
 // Whether a short address stands at a place: held or not, leased or not.
@@ -36,10 +37,7 @@ pub fn is_held_address(src: &[u8], at: usize) -> bool
     requires { at + 20 ≤ length src.now }
     ensures { result ≡ held_address_part.good (drop at src.now) }
 {
-    if is_bool(src, at) {
-        return is_short_address(src, at + 1);
-    }
-    false
+    is_bool(src, at) && is_short_address(src, at + 1)
 }
 
 // The short address at a place.
@@ -59,9 +57,8 @@ pub fn put_held_address(dst: &mut [u8], address: HeldAddress)
     requires { 20 ≤ length dst.old }
     ensures { Wrote (held_address_part.put address) dst.old 20 dst.new }
 {
-    let value = address.value;
     put_bool(dst, address.held);
-    put_short_address(&mut dst[1..], value);
+    put_short_address(&mut dst[1..], address.value);
     put_number(&mut dst[12..], 8, address.received);
 }
 
@@ -81,9 +78,8 @@ pub fn put_held_list(dst: &mut [u8], list: HeldList)
     requires { 256 ≤ length dst.old }
     ensures { Wrote (held_list_part.put list) dst.old 256 dst.new }
 {
-    let value = list.value;
     put_bool(dst, list.held);
-    put_list(&mut dst[1..], value);
+    put_list(&mut dst[1..], list.value);
 }
 
 // The join rate at a place.

@@ -113,10 +113,8 @@ fn put_sets(dst: &mut [u8], sets: KeySets)
     requires { 498 ≤ length dst.old }
     ensures { Wrote (sets_part.put sets) dst.old 498 dst.new }
 {
-    let active = sets.active;
-    let pending = sets.pending;
-    put_counted_set(dst, active);
-    put_counted_set(&mut dst[249..], pending);
+    put_counted_set(dst, sets.active);
+    put_counted_set(&mut dst[249..], sets.pending);
 }
 
 // Writes form, blacklist, join rate and faults.
@@ -141,19 +139,17 @@ fn put_holding(dst: &mut [u8], node: Node)
     requires { 351 ≤ length dst.old }
     ensures { Wrote (held_fields.put (held_of node)) dst.old 351 dst.new }
 {
-    let version = node.version;
-    let address = node.address;
-    let jrc = node.jrc;
-    let network = node.network;
-    let prefix = node.prefix;
-    let blacklist = node.blacklist;
-    let rate = node.rate;
-    let faults = node.errors;
-    put_held_address(dst, address);
-    put_held_octets(&mut dst[20..], jrc);
-    put_held_octets(&mut dst[38..], network);
-    put_held_octets(&mut dst[56..], prefix);
-    put_form(&mut dst[74..], version, blacklist, rate, faults);
+    put_held_address(dst, node.address);
+    put_held_octets(&mut dst[20..], node.jrc);
+    put_held_octets(&mut dst[38..], node.network);
+    put_held_octets(&mut dst[56..], node.prefix);
+    put_form(
+        &mut dst[74..],
+        node.version,
+        node.blacklist,
+        node.rate,
+        node.errors,
+    );
 }
 
 // Stores a node.
@@ -161,11 +157,9 @@ pub fn put_node(dst: &mut [u8], node: Node)
     requires { length dst.old ≡ 878 }
     ensures { dst.new ≡ node_image.put node }
 {
-    let attempt = node.attempt;
-    let sets = node.sets;
     put_head(dst, KIND);
     put_byte(&mut dst[2..], node.role);
-    put_attempt(&mut dst[3..], attempt);
-    put_sets(&mut dst[29..], sets);
+    put_attempt(&mut dst[3..], node.attempt);
+    put_sets(&mut dst[29..], node.sets);
     put_holding(&mut dst[527..], node);
 }

@@ -1,20 +1,12 @@
 // The form that a node speaks, in an image.
 ghost use Rattle.std.specs.Prelude.{◌≡◌, ◌+◌, ◌≤◌, length, drop};
 ghost use Rattle.byte_io.specs.Write.{Wrote};
-ghost use Rattle.node_image.specs.Version.{version_number, version_of, version_part};
+ghost use Rattle.node_image.specs.Version.{version_of, version_part};
 
 use image::put_byte;
 use protocol_version::Version;
 
-fn version_number(version: Version) -> u8
-    ensures { result ≡ version_number version }
-{
-    match version {
-        Version::Draft => 0,
-        Version::Published => 1,
-    }
-}
-
+// Kept: total, since `version_part.get` gives a byte over 1, which no image has, a meaning too.
 fn version_of(n: u8) -> Version
     ensures { result ≡ version_of n }
 {
@@ -45,5 +37,5 @@ pub fn put_version(dst: &mut [u8], version: Version)
     requires { 1 ≤ length dst.old }
     ensures { Wrote (version_part.put version) dst.old 1 dst.new }
 {
-    put_byte(dst, version_number(version));
+    put_byte(dst, version as u8);
 }

@@ -1,5 +1,6 @@
 -- Keys for frames: what is sent comes from the active set, what is received from either,
 -- and a verified frame switches by a pending key alone.
+use Rattle.std.specs.Prelude.{Ok, Err}
 use Prim.Native.Nat.{ℕ}
 use native.Mathlib.Omega.{arith}
 use mathlib.Core.Path.{◌≡◌, refl, ap, subst}
@@ -11,8 +12,7 @@ use borrow.Author.Tests.{le-leb, ne_eqb}
 use lib.Dec.{eqb}
 use Rattle.refusal.specs.RefusalLemmas.{refused-not}
 use Rattle.refusal.specs.declared.Refusal.TheVariants as refusal
-use Rattle.refusal.specs.declared.Verdict.{Verdict}
-use Rattle.refusal.specs.declared.Verdict.TheVariants as verdict
+use Rattle.refusal.specs.Verdict.{Verdict}
 use Rattle.link_key.specs.Key.{valid_key, covers}
 use Rattle.link_key.specs.set.KeySet.{has, Covers, find_key}
 use Rattle.link_key.specs.usage.Usage.{known_type}
@@ -81,7 +81,7 @@ module _ (C : CounterLaws) where
             (rw (ne_eqb held.slot.counter last_counter (fresh held.slot held.member covering)));
       }
 
-  pub can-send : KeyLaws → (s : KeySets) (type : ℕ) → Serving s type → (sending s type).answer.verdict ≡ verdict.Accepted
+  pub can-send : KeyLaws → (s : KeySets) (type : ℕ) → Serving s type → (sending s type).answer.verdict ≡ Ok tt
   unfolding sending
   can-send K s type c =
       let covering = both_left (covers c.slot.key type) (not (is_used_up c.slot)) c.serving in
@@ -99,21 +99,21 @@ module _ (C : CounterLaws) where
         (unsent refusal.Range s)
 
     sent-by :
-        (t b : Bool) → (take_counter type s.active).found ≡ b → (sent t b).answer.verdict ≡ verdict.Accepted →
+        (t b : Bool) → (take_counter type s.active).found ≡ b → (sent t b).answer.verdict ≡ Ok tt →
         Memᴰ (sent t b).answer.key (active_in s) × (covers (sent t b).answer.key type ≡ true)
     sent-by true true f a = C.spent-from type s.active f
     sent-by true false f a = refused-not refusal.Silent a
     sent-by false b f a = refused-not refusal.Range a
 
     pub sent-from :
-        (sending s type).answer.verdict ≡ verdict.Accepted →
+        (sending s type).answer.verdict ≡ Ok tt →
         Memᴰ (sending s type).answer.key (active_in s) × (covers (sending s type).answer.key type ≡ true)
     unfolding sending
     sent-from a = sent-by (known_type type) (take_counter type s.active).found refl a
 
     counted-by :
         (t : Bool) (o : Option Slot) → first_serving type s.active ≡ o →
-        (cond t (sent_with s (taken_counter_on s.active o)) (unsent refusal.Range s)).answer.verdict ≡ verdict.Accepted →
+        (cond t (sent_with s (taken_counter_on s.active o)) (unsent refusal.Range s)).answer.verdict ≡ Ok tt →
         Counted s type (cond t (sent_with s (taken_counter_on s.active o)) (unsent refusal.Range s))
     counted-by true (some x) f a = record { slot = x; first = f; key = refl; counter = refl; sets = refl }
     counted-by true none f a = refused-not refusal.Silent a
@@ -124,7 +124,7 @@ module _ (C : CounterLaws) where
     unfolding sending
     sent-first = ap (λ (x : TakenCounter). cond (known_type type) (sent_with s x) (unsent refusal.Range s)) (C.spend-first type s.active)
 
-    pub sent-counts : (sending s type).answer.verdict ≡ verdict.Accepted → Counted s type (sending s type)
+    pub sent-counts : (sending s type).answer.verdict ≡ Ok tt → Counted s type (sending s type)
     sent-counts a = rw sent-first (counted-by (known_type type) (first_serving type s.active) refl (rw sent-first at a))
 
     -- sending leaves the keys: only a counter of the active set rises
@@ -164,7 +164,7 @@ module _ (K : KeyLaws) where
           covering,
         )
 
-  module _ (s : KeySets) (type identifier : ℕ) (x : KeyAnswer) (a : x.verdict ≡ verdict.Accepted) where
+  module _ (s : KeySets) (type identifier : ℕ) (x : KeyAnswer) (a : x.verdict ≡ Ok tt) where
     cover-cases :
         (k : Key) (b : Bool) → covers k type ≡ b → Memᴰ k (active_in s) ⊎ Memᴰ k (pending_in s) → k.identifier ≡ identifier →
         x ≡ cond b (with_key k) (without_key refusal.Silent) → Received s type identifier x.key
@@ -184,14 +184,14 @@ module _ (K : KeyLaws) where
         cover-cases k (covers k type) refl (inr found.0) found.1 e
 
   received :
-      (s : KeySets) (type identifier : ℕ) → (receiving_key s type identifier).verdict ≡ verdict.Accepted →
+      (s : KeySets) (type identifier : ℕ) → (receiving_key s type identifier).verdict ≡ Ok tt →
       Received s type identifier (receiving_key s type identifier).key
   received s type identifier a =
       received-by s type identifier (receiving_key s type identifier) a (known_type type && not (eqb identifier 0))
       (find_key identifier (active_in s)) (find_key identifier (pending_in s)) refl refl (unfold receiving_key in refl)
 
   pub receive-from :
-      (s : KeySets) (type identifier : ℕ) → (receiving_key s type identifier).verdict ≡ verdict.Accepted →
+      (s : KeySets) (type identifier : ℕ) → (receiving_key s type identifier).verdict ≡ Ok tt →
       (Memᴰ (receiving_key s type identifier).key (active_in s) ⊎ Memᴰ (receiving_key s type identifier).key (pending_in s))
       × ((receiving_key s type identifier).key.identifier ≡ identifier)
       × (covers (receiving_key s type identifier).key type ≡ true)
@@ -215,9 +215,9 @@ module _ (K : KeyLaws) where
       (s : KeySets) (type identifier : ℕ) (w : Verdict) (b : Bool) → (receiving_key s type identifier).verdict ≡ w →
       has identifier (active_in s) ≡ b →
       ((effect_by w b s).sets ≡ s) ⊎ (Switching s type identifier × ((effect_by w b s).sets ≡ switched s))
-  either-by s type identifier (verdict.Refused k) b e f = inl refl
-  either-by s type identifier verdict.Accepted true e f = inl refl
-  either-by s type identifier verdict.Accepted false e f =
+  either-by s type identifier (Err k) b e f = inl refl
+  either-by s type identifier (Ok tt) true e f = inl refl
+  either-by s type identifier (Ok tt) false e f =
       inr (switching-by s type identifier (receiving_key s type identifier).key (received s type identifier e) f, refl)
 
   pub verified-either :
@@ -237,13 +237,13 @@ module _ (K : KeyLaws) where
       let answer = subst (λ (i : ℕ). receiving_key s type i ≡ with_key w.key) w.identified r in
       rw (answer, K.none_has identifier (active_in s) w.absent)
 
-  says-by : (s : KeySets) (w : Verdict) (b : Bool) → (effect_by w b s).change ≡ change.Switched → (effect_by w b s).sets ≡ switched s
-  says-by s (verdict.Refused k) b e = absurd (let z : ◌≡◌ {A = ℕ} 0 1 = cc in omega arith)
-  says-by s verdict.Accepted true e = absurd (let z : ◌≡◌ {A = ℕ} 0 1 = cc in omega arith)
-  says-by s verdict.Accepted false e = refl
+  says-by : (s : KeySets) (w : Verdict) (b : Bool) → (effect_by w b s).change ≡ Ok change.Switched → (effect_by w b s).sets ≡ switched s
+  says-by s (Err k) b e = absurd (let z : ◌≡◌ {A = ℕ} 0 1 = cc in omega arith)
+  says-by s (Ok tt) true e = absurd (let z : ◌≡◌ {A = ℕ} 0 1 = cc in omega arith)
+  says-by s (Ok tt) false e = refl
 
   pub verified-says :
-      (s : KeySets) (type identifier : ℕ) → (verified_in s type identifier).change ≡ change.Switched →
+      (s : KeySets) (type identifier : ℕ) → (verified_in s type identifier).change ≡ Ok change.Switched →
       (verified_in s type identifier).sets ≡ switched s
   unfolding verified_in
   verified-says s type identifier e = says-by s (receiving_key s type identifier).verdict (has identifier (active_in s)) e

@@ -1,4 +1,5 @@
 -- What it says that two key sets are valid, part by part, and back; a switch and a new set leave valid sets.
+use Rattle.std.specs.Prelude.{Ok}
 use mathlib.Core.Path.{◌≡◌, refl, sym, ◌∙◌}
 use mathlib.Core.Bool.{Bool, true, false, cond, not, ◌&&◌, ◌||◌, or-true, and-true, and-false}
 use mathlib.Core.List.Memᴰ
@@ -6,7 +7,6 @@ use mathlib.Core.List.{List, [], Memᴰ}
 use borrow.Author.Tests.{eqb-true, not-true}
 use Rattle.refusal.specs.RefusalLemmas.{refused-not}
 use Rattle.refusal.specs.declared.Refusal.TheVariants as refusal
-use Rattle.refusal.specs.declared.Verdict.TheVariants as verdict
 use Rattle.link_key.specs.set.KeySet.{keys_of, valid_keys, valid_set, no_additional_infos, additional_info_allowed, same_keys, shares}
 use Rattle.link_key.specs.declared.Key.{Key}
 use Rattle.link_key.specs.declared.set.key_set.KeySet.{KeySet}
@@ -77,13 +77,13 @@ abbrev pub place_by : KeySets → KeySet → Bool → Bool → Bool → Bool →
 place_by s set ok border equals shared = cond ok (decide_install s set border equals shared) (unplaced refusal.Range s)
 
 pub border-installs :
-    (s : KeySets) (set : KeySet) → (install true s set).verdict ≡ verdict.Accepted →
+    (s : KeySets) (set : KeySet) → (install true s set).verdict ≡ Ok tt →
     (install true s set).sets ≡ two_sets (inherit_counters s.active set) no_counted
 unfolding install
 border-installs s set = go (valid_set set)
   where
     go :
-        (ok : Bool) → (place_by s set ok true false false).verdict ≡ verdict.Accepted →
+        (ok : Bool) → (place_by s set ok true false false).verdict ≡ Ok tt →
         (place_by s set ok true false false).sets ≡ two_sets (inherit_counters s.active set) no_counted
     go true e = refl
     go false e = refused-not refusal.Range e

@@ -1,11 +1,12 @@
 -- Which key a frame is sent and received with, and what a verified frame does to the two key sets.
-use Rattle.std.specs.Prelude.{ℕ, Bool, true, false, cond, not, ◌&&◌, eqb}
+use Rattle.std.specs.Prelude.{ℕ, Bool, true, false, cond, not, ◌&&◌, eqb, Result, Ok, Err}
+use Rattle.std.specs.declared.option.Option.{Option as Found}
+use Rattle.std.specs.declared.option.Option.TheVariants.{None, Some}
 use Rattle.std.proofs.Math.Option.{Option, none, some}
 use Rattle.refusal.specs.Refusal.{number_of}
 use Rattle.refusal.specs.declared.Refusal.{Refusal}
 use Rattle.refusal.specs.declared.Refusal.TheVariants as refusal
-use Rattle.refusal.specs.declared.Verdict.{Verdict}
-use Rattle.refusal.specs.declared.Verdict.TheVariants as verdict
+use Rattle.refusal.specs.Verdict.{Verdict, verdict_of}
 use Rattle.link_key.specs.Key.{no_key, covers}
 use Rattle.link_key.specs.set.KeySet.{has, find_key}
 use Rattle.link_key.specs.usage.Usage.{known_type}
@@ -20,10 +21,10 @@ use Rattle.node_key_sets.specs.declared.frames.SendKeyResult.{SendKeyResult}
 use Rattle.node_key_sets.specs.declared.sets.KeySets.{KeySets}
 
 abbrev pub with_key : Key → KeyAnswer
-with_key k = record { verdict = verdict.Accepted; key = k }
+with_key k = record { verdict = Ok tt; key = k }
 
 abbrev pub without_key : Refusal → KeyAnswer
-without_key k = record { verdict = verdict.Refused k; key = no_key }
+without_key k = record { verdict = Err k; key = no_key }
 
 -- ---- sending: the first active key that covers the type and is not used up, with its counter, which rises; RANGE: the type; SILENT
 abbrev pub unsent : Refusal → KeySets → SendKeyResult
@@ -49,6 +50,11 @@ abbrev pub if_covers : ℕ → Option Key → KeyAnswer
 if_covers type none = without_key refusal.Silent
 if_covers type (some k) = cond (covers k type) (with_key k) (without_key refusal.Silent)
 
+-- the same of the key as code has it
+abbrev pub if_found_covers : ℕ → Found Key → KeyAnswer
+if_found_covers type None = without_key refusal.Silent
+if_found_covers type (Some k) = cond (covers k type) (with_key k) (without_key refusal.Silent)
+
 unfoldable pub receiving_key : KeySets → ℕ → ℕ → KeyAnswer
 receiving_key s type identifier =
     cond (known_type type && not (eqb identifier 0)) (if_covers type (held_key s identifier)) (without_key refusal.Range)
@@ -59,39 +65,37 @@ switched s = two_sets s.pending no_counted
 
 -- what the report did, and the sets after it
 pub record Effect : Type 0 where
-  pub change : Change
+  pub change : Result Change Refusal
   pub sets : KeySets
 
-abbrev pub effect : Change → KeySets → Effect
+abbrev pub effect : Result Change Refusal → KeySets → Effect
 effect change s = record { change = change; sets = s }
 
 abbrev pub effect_by : Verdict → Bool → KeySets → Effect
-effect_by (verdict.Refused k) active s = effect (change.Refused k) s
-effect_by verdict.Accepted true s = effect change.Kept s
-effect_by verdict.Accepted false s = effect change.Switched (switched s)
+effect_by (Err k) active s = effect (Err k) s
+effect_by (Ok tt) true s = effect (Ok change.Kept) s
+effect_by (Ok tt) false s = effect (Ok change.Switched) (switched s)
 
 unfoldable pub verified_in : KeySets → ℕ → ℕ → Effect
 verified_in s type identifier = effect_by (receiving_key s type identifier).verdict (has identifier (active_in s)) s
 
 -- the answer in document 01's terms
-abbrev pub change_verdict : Change → Verdict
-change_verdict (change.Refused k) = verdict.Refused k
-change_verdict change.Switched = verdict.Accepted
-change_verdict change.Kept = verdict.Accepted
+abbrev pub change_verdict : Result Change Refusal → Verdict
+change_verdict change = verdict_of change
 
-abbrev pub change_number : Change → ℕ
-change_number (change.Refused k) = number_of k
-change_number change.Switched = 0
-change_number change.Kept = 0
+abbrev pub change_number : Result Change Refusal → ℕ
+change_number (Err k) = number_of k
+change_number (Ok change.Switched) = 0
+change_number (Ok change.Kept) = 0
 
 -- the frame's key was active, and the active set stays
-abbrev pub has_kept : Change → Bool
-has_kept (change.Refused k) = false
-has_kept change.Switched = false
-has_kept change.Kept = true
+abbrev pub has_kept : Result Change Refusal → Bool
+has_kept (Err k) = false
+has_kept (Ok change.Switched) = false
+has_kept (Ok change.Kept) = true
 
 -- the pending set became active
-abbrev pub has_switched : Change → Bool
-has_switched (change.Refused k) = false
-has_switched change.Switched = true
-has_switched change.Kept = false
+abbrev pub has_switched : Result Change Refusal → Bool
+has_switched (Err k) = false
+has_switched (Ok change.Switched) = true
+has_switched (Ok change.Kept) = false

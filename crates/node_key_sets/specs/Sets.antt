@@ -1,16 +1,13 @@
 -- A node's two key sets: which may stand together, and where a new set goes.
-use Rattle.std.specs.Prelude.{◌≡◌, Bool, cond, not, ◌&&◌, ◌||◌, List, ◌++◌, eqb}
+use Rattle.std.specs.Prelude.{◌≡◌, Bool, cond, not, ◌&&◌, ◌||◌, List, ◌++◌, eqb, Result, Ok, Err}
 use Rattle.refusal.specs.declared.Refusal.{Refusal}
 use Rattle.refusal.specs.declared.Refusal.TheVariants as refusal
-use Rattle.refusal.specs.declared.Verdict.TheVariants as verdict
 use Rattle.link_key.specs.set.KeySet.{keys_of, valid_set, no_additional_infos, same_keys, shares}
 use Rattle.link_key.specs.declared.Key.{Key}
 use Rattle.link_key.specs.declared.set.key_set.KeySet.{KeySet}
 use Rattle.link_key_counters.specs.Counters.{Slot, slots_of, with_zero_counters, no_counted, inherit_counters}
 use Rattle.link_key_counters.specs.declared.CountedSet.{CountedSet}
 use Rattle.node_key_sets.specs.declared.sets.KeySets.{KeySets}
-use Rattle.node_key_sets.specs.declared.sets.InstallDecision.{InstallDecision}
-use Rattle.node_key_sets.specs.declared.sets.InstallDecision.TheVariants as at
 use Rattle.node_key_sets.specs.declared.sets.InstallResult.{InstallResult}
 use Rattle.node_key_sets.specs.declared.sets.InstallSlot.{InstallSlot}
 use Rattle.node_key_sets.specs.declared.sets.InstallSlot.TheVariants as spot
@@ -56,11 +53,11 @@ valid_as allowed border s = (valid border s && (allowed || plain_in s))
 
 -- ---- where a new set goes
 abbrev pub placed : KeySets → InstallResult
-placed s = record { verdict = verdict.Accepted; sets = s }
+placed s = record { verdict = Ok tt; sets = s }
 
 -- a refusal leaves the two
 abbrev pub unplaced : Refusal → KeySets → InstallResult
-unplaced k s = record { verdict = verdict.Refused k; sets = s }
+unplaced k s = record { verdict = Err k; sets = s }
 
 -- a border node's new set replaces its active set at once, and its keys keep the counters that they had there; at an ordinary node one
 -- that equals the active set empties the pending place, one that otherwise shares an identifier with the active set is CLASH, and any
@@ -81,24 +78,24 @@ install border s set =
     (unplaced refusal.Range s)
 
 -- ---- the same, by where the new set goes: the decision, and what it does to the two
-unfoldable pub install_decision : Bool → KeySets → KeySet → InstallDecision
+unfoldable pub install_decision : Bool → KeySets → KeySet → Result InstallSlot Refusal
 install_decision border s set =
     cond (valid_set set)
     (cond border
-    (at.At spot.Active)
+    (Ok spot.Active)
     (cond (same_keys (keys_of set) (active_in s))
-    (at.At spot.Same)
-    (cond (shares (keys_of set) (active_in s)) (at.Refused refusal.Clash) (at.At spot.Pending))))
-    (at.Refused refusal.Range)
+    (Ok spot.Same)
+    (cond (shares (keys_of set) (active_in s)) (Err refusal.Clash) (Ok spot.Pending))))
+    (Err refusal.Range)
 
 abbrev pub set_at : InstallSlot → KeySets → KeySet → KeySets
 set_at spot.Active s set = two_sets (inherit_counters s.active set) no_counted
 set_at spot.Same s set = two_sets s.active no_counted
 set_at spot.Pending s set = two_sets s.active (with_zero_counters set)
 
-abbrev pub placing : InstallDecision → KeySets → KeySet → InstallResult
-placing (at.Refused k) s set = unplaced k s
-placing (at.At spot) s set = placed (set_at spot s set)
+abbrev pub placing : Result InstallSlot Refusal → KeySets → KeySet → InstallResult
+placing (Err k) s set = unplaced k s
+placing (Ok spot) s set = placed (set_at spot s set)
 
 abbrev pub InstallDecided : Type 0
 InstallDecided = (border : Bool) (s : KeySets) (set : KeySet) → install border s set ≡ placing (install_decision border s set) s set

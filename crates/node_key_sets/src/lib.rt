@@ -7,8 +7,8 @@ pub mod sets;
 ghost use Rattle.node_key_sets.specs.Demand1.{KeySetsDemand1};
 ghost use Rattle.node_key_sets.specs.Sets.{InstallDecided};
 
-pub use frames::{Change, KeyAnswer, SendKeyResult, without_key};
-pub use sets::{InstallDecision, InstallResult, InstallSlot, KeySets, no_sets};
+pub use frames::{Change, KeyAnswer, SendKeyResult, has_switched, without_key};
+pub use sets::{InstallResult, InstallSlot, KeySets, no_sets};
 
 // Installing a set does what `KeySets::decide_install` decides.
 pub fn install_law()

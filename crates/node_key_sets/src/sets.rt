@@ -5,9 +5,10 @@ ghost use Rattle.node_key_sets.specs.Sets.{active_in, pending_in, is_none, no_se
 
 use link_key::set::KeySet;
 use link_key_counters::{CountedSet, none_counted};
-use refusal::{Refusal, Verdict};
+use refusal::Refusal;
 
 // A set whose count is 0 stands for no set.
+// Kept: C's image of a node has both sets in place, and `none_or_valid` tells the count 0 from a set.
 #[derive(Clone, Copy)]
 pub struct KeySets {
     pub active: CountedSet,
@@ -16,9 +17,10 @@ pub struct KeySets {
 
 // The sets after a new one came; beside a refusal they are as they were. The definitions' answer: the code gives the place alone, and the
 // node changes its sets where they stand.
+// Kept: `install-refused` of the theorem KeySetsDemand1 speaks of the sets beside a refusal.
 #[derive(Clone, Copy)]
 pub struct InstallResult {
-    pub verdict: Verdict,
+    pub verdict: Result<(), Refusal>,
     pub sets: KeySets,
 }
 
@@ -28,12 +30,6 @@ pub enum InstallSlot {
     Active,
     Same,
     Pending,
-}
-
-#[derive(Clone, Copy)]
-pub enum InstallDecision {
-    Refused(Refusal),
-    At(InstallSlot),
 }
 
 pub fn no_sets() -> KeySets
@@ -59,13 +55,7 @@ impl KeySets {
         ensures { result ≡ (not (shares (active_in self) (pending_in self)) && (not border || is_none self.pending.set)) }
     {
         link_key::set::laws();
-        if self.pending.set.count == 0 {
-            return true;
-        }
-        if border {
-            return false;
-        }
-        !self.active.set.shares(self.pending.set)
+        self.pending.set.count == 0 || !border && !self.active.set.shares(self.pending.set)
     }
 
     // Whether a node may hold the two: each in range, no identifier in both, none pending at a border node, additional information only
@@ -80,21 +70,22 @@ impl KeySets {
 
     // Where a new set goes: a border node's is active at once; an ordinary node's is the active one, or waits as the pending one.
     // RANGE: the new set; CLASH. The two sets themselves are judged by the node's call that this is a part of.
-    pub fn decide_install(self, border: bool, set: KeySet) -> InstallDecision
+    #[tactic(auto, unfolding(crate::specs::Sets::install_decision))]
+    pub fn decide_install(self, border: bool, set: KeySet) -> Result<InstallSlot, Refusal>
         ensures { result ≡ install_decision border self set }
     {
         if !set.valid() {
-            return InstallDecision::Refused(Refusal::Range);
+            return Err(Refusal::Range);
         }
         if border {
-            return InstallDecision::At(InstallSlot::Active);
+            return Ok(InstallSlot::Active);
         }
         if set.same_keys(self.active.set) {
-            return InstallDecision::At(InstallSlot::Same);
+            return Ok(InstallSlot::Same);
         }
         if set.shares(self.active.set) {
-            return InstallDecision::Refused(Refusal::Clash);
+            return Err(Refusal::Clash);
         }
-        InstallDecision::At(InstallSlot::Pending)
+        Ok(InstallSlot::Pending)
     }
 }

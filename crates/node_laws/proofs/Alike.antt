@@ -1,4 +1,5 @@
 -- Equal taken parameters are both taken or both not; where they are taken, what they mean is equal, and nothing else of them is looked at.
+use Rattle.std.specs.Prelude.{Ok, Err}
 use Prim.Native.Nat.{ℕ}
 use native.Mathlib.Omega.{arith}
 use mathlib.Core.Path.{◌≡◌, refl, sym, ◌∙◌, ap}
@@ -6,8 +7,7 @@ use mathlib.Core.Bool.{Bool, true, false, cond, not, ◌&&◌}
 use mathlib.Core.List.{List}
 use mathlib.Core.Option.{Option, none, some}
 use Rattle.refusal.specs.declared.Refusal.TheVariants as refusal
-use Rattle.refusal.specs.declared.Verdict.{Verdict}
-use Rattle.refusal.specs.declared.Verdict.TheVariants as verdict
+use Rattle.refusal.specs.Verdict.{Verdict}
 use Rattle.link_key.specs.set.KeySet.{keys_of, valid_set}
 use Rattle.link_key.specs.declared.set.key_set.KeySet.{KeySet}
 use Rattle.link_key_counters.specs.CounterLaws.{CounterLaws}
@@ -196,8 +196,8 @@ module _ (C : CounterLaws) (delivery : Delivery) (n : Node) (time : ℕ) (c d : 
       SameOutcome (cond o (undelivered refusal.Owed n) (placed_by v delivery n time c (placement_of n c.keys).sets))
       (cond o (undelivered refusal.Owed n) (placed_by v delivery n time d (placement_of n d.keys).sets))
   outcomes true v = record { verdict = refl; node = same_self n; counters = same-counters n }
-  outcomes false (verdict.Refused k) = record { verdict = refl; node = same_self n; counters = same-counters n }
-  outcomes false verdict.Accepted = record { verdict = refl; node = node-same; counters = counters-same }
+  outcomes false (Err k) = record { verdict = refl; node = same_self n; counters = same-counters n }
+  outcomes false (Ok tt) = record { verdict = refl; node = node-same; counters = counters-same }
 
   applied-alike : SameOutcome (apply delivery n time c) (apply delivery n time d)
   unfolding apply
@@ -211,8 +211,8 @@ module _ (C : CounterLaws) (delivery : Delivery) (n : Node) (time : ℕ) (c d : 
     where
       go : (v : Version) (w : Verdict) → SameConfiguration (by_version v c (fitted_by w c)) (by_version v d (fitted_by w d))
       go Draft w = h
-      go Published verdict.Accepted = h
-      go Published (verdict.Refused k) = record {
+      go Published (Ok tt) = h
+      go Published (Err k) = record {
         keys = refl;
         address = h.address;
         jrc = h.jrc;

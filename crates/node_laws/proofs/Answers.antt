@@ -1,5 +1,7 @@
 -- Numbers and values go by the tests of a call, in the order of its definition; of a valid node the attempt is valid too, and a key set
 -- that was read is within its limits.
+use Rattle.std.specs.Prelude.{Result, Ok, Err}
+use Rattle.refusal.specs.declared.Refusal.{Refusal}
 use Prim.Native.Nat.{ℕ, ◌+◌, ◌*◌, ◌≤◌}
 use native.Mathlib.Omega.{arith}
 use mathlib.Core.Path.{◌≡◌, refl, sym, ◌∙◌, ap}
@@ -13,16 +15,13 @@ use Rattle.refusal.specs.Verdict.{verdict_number, is_accepted}
 use Rattle.refusal.specs.RefusalLemmas.{refused-not, refused-first}
 use Rattle.refusal.specs.Order.{refused_if, in_order}
 use Rattle.refusal.specs.declared.Refusal.TheVariants as refusal
-use Rattle.refusal.specs.declared.Verdict.{Verdict}
-use Rattle.refusal.specs.declared.Verdict.TheVariants as verdict
+use Rattle.refusal.specs.Verdict.{Verdict}
 use Rattle.lemmas.specs.logic.Tests.{never}
 use Rattle.link_key.specs.usage.Usage.{known_type}
 use Rattle.link_key.specs.Key.{covers}
 use Rattle.link_key.specs.declared.Key.{Key}
 use Rattle.link_key.specs.set.KeySet.{has}
 use Rattle.byte_io.specs.Write.{Plan, answer}
-use Rattle.byte_io.specs.declared.WriteResult.{WriteResult}
-use Rattle.byte_io.specs.declared.WriteResult.TheVariants as written
 use Rattle.cojp.specs.InRange.{ReadsInRange}
 use Rattle.protocol_version.specs.Version.{by_version}
 use Rattle.cojp.specs.Writing.{keys_in_range, request_plan}
@@ -38,7 +37,6 @@ use Rattle.link_key_counters.specs.declared.TakenCounter.{TakenCounter}
 use Rattle.node_key_sets.specs.Frames as sets
 use Rattle.node_key_sets.specs.Frames.{with_key, without_key, if_covers, held_key, receiving_key, effect_by, verified_in}
 use Rattle.node_key_sets.specs.Frames.{change_number, has_switched, has_kept}
-use Rattle.node_key_sets.specs.declared.frames.Change.TheVariants as change
 use Rattle.node_key_sets.specs.declared.frames.KeyAnswer.{KeyAnswer}
 use Rattle.node_key_sets.specs.declared.sets.KeySets.{KeySets}
 use Rattle.node_attempt.specs.Attempt.{first_timeout, attempt, may_start}
@@ -96,7 +94,7 @@ invalid (reporting type identifier) n e = rw e
 -- ---- making
 made_by :
     (r o : Bool) (m : Node) →
-    verdict_number (cond r (cond o (record { verdict = verdict.Accepted; node = m }) unmade) unmade).verdict ≡ refused_if (not (r && o)) 13
+    verdict_number (cond r (cond o (record { verdict = Ok tt; node = m }) unmade) unmade).verdict ≡ refused_if (not (r && o)) 13
 made_by false o m = refl
 made_by true false m = refl
 made_by true true m = refl
@@ -108,15 +106,15 @@ unfolding made
 made-number version role network = made_by (valid_role role) (valid_octets network) _
 
 -- ---- starting
-written-by : (w : WriteResult) (n m : Node) → verdict_number (started_by w n m).verdict ≡ in_order (written_number w ∷ [])
-written-by (written.Refused k) n m = sym (refused-first k [])
-written-by (written.Length l) n m = refl
+written-by : (w : Result ℕ Refusal) (n m : Node) → verdict_number (started_by w n m).verdict ≡ in_order (written_number w ∷ [])
+written-by (Err k) n m = sym (refused-first k [])
+written-by (Ok l) n m = refl
 
 module _ (n m : Node) (p : Plan) (d : List ℕ) where
   abbrev start_by : Bool → Bool → Bool → Verdict
   start_by l w f =
-      cond l (cond w (verdict.Refused refusal.Phase) (cond f verdict.Accepted (verdict.Refused refusal.Range)))
-      (verdict.Refused refusal.Clock)
+      cond l (cond w (Err refusal.Phase) (cond f (Ok tt) (Err refusal.Range)))
+      (Err refusal.Clock)
 
   start-by :
       (l w f : Bool) →
@@ -152,7 +150,7 @@ start-number n time timeout d = go (valid n) refl
         (v : Bool) → valid n ≡ v →
         verdict_number
         (started_by (answer
-        (plan_by (cond v (may_start n.attempt time timeout) (verdict.Refused refusal.Range)) (request_plan n.version (request_of n))) d) n
+        (plan_by (cond v (may_start n.attempt time timeout) (Err refusal.Range)) (request_plan n.version (request_of n))) d) n
         (started_from n time timeout)).verdict
         ≡ in_order (refused_if (not v) 13 ∷ tests)
     go false e = refl
@@ -162,34 +160,34 @@ start-number n time timeout d = go (valid n) refl
         (first_timeout timeout))
 
 start-wrote :
-    (w : WriteResult) (n m : Node) → (started_by w n m).verdict ≡ verdict.Accepted → w ≡ written.Length (started_by w n m).length
-start-wrote (written.Refused k) n m e = refused-not k e
-start-wrote (written.Length l) n m e = refl
+    (w : Result ℕ Refusal) (n m : Node) → (started_by w n m).verdict ≡ Ok tt → w ≡ Ok (started_by w n m).length
+start-wrote (Err k) n m e = refused-not k e
+start-wrote (Ok l) n m e = refl
 
 start-length :
-    (n : Node) (time timeout : ℕ) (d : List ℕ) → (start n time timeout d).verdict ≡ verdict.Accepted →
-    answer (request_plan n.version (request_of n)) d ≡ written.Length (start n time timeout d).length
+    (n : Node) (time timeout : ℕ) (d : List ℕ) → (start n time timeout d).verdict ≡ Ok tt →
+    answer (request_plan n.version (request_of n)) d ≡ Ok (start n time timeout d).length
 unfolding start start_plan
 start-length n time timeout d = go (start_verdict n time timeout)
   where
     go :
         (v : Verdict) → (started_by (answer (plan_by v (request_plan n.version (request_of n))) d) n (started_from n time timeout)).verdict
-        ≡ verdict.Accepted →
+        ≡ Ok tt →
         answer (request_plan n.version (request_of n)) d
-        ≡ written.Length (started_by (answer (plan_by v (request_plan n.version (request_of n))) d) n (started_from n time timeout)).length
-    go (verdict.Refused k) e = refused-not k e
-    go verdict.Accepted e = start-wrote (answer (request_plan n.version (request_of n)) d) n (started_from n time timeout) e
+        ≡ Ok (started_by (answer (plan_by v (request_plan n.version (request_of n))) d) n (started_from n time timeout)).length
+    go (Err k) e = refused-not k e
+    go (Ok tt) e = start-wrote (answer (request_plan n.version (request_of n)) d) n (started_from n time timeout) e
 
 -- ---- polling: the answer, test by test
-abbrev due_by : Bool → Bool → Bool → Bool → Bool → Bool → Due
+abbrev due_by : Bool → Bool → Bool → Bool → Bool → Bool → Result Due Refusal
 due_by v f l w t c =
     cond v
     (cond f
     (cond l
-    (cond w (cond t (cond c due.SendAgain due.GaveUp) due.NotYet) (due.Refused refusal.Phase))
-    (due.Refused refusal.Clock))
-    (due.Refused refusal.Range))
-    (due.Refused refusal.Range)
+    (cond w (cond t (cond c (Ok due.SendAgain) (Ok due.GaveUp)) (Ok due.NotYet)) (Err refusal.Phase))
+    (Err refusal.Clock))
+    (Err refusal.Range))
+    (Err refusal.Range)
 
 poll-tests :
     (n : Node) (time : ℕ) →
@@ -209,11 +207,11 @@ poll-tests n time =
         (polled_by n
         (cond f
         (cond l
-        (cond w (cond t (cond c (step due.SendAgain again) (step due.GaveUp over)) (step due.NotYet still))
-        (step (due.Refused refusal.Phase) n.attempt))
-        (step (due.Refused refusal.Clock) n.attempt))
-        (step (due.Refused refusal.Range) n.attempt)))
-        (polled (due.Refused refusal.Range) n)).due
+        (cond w (cond t (cond c (step (Ok due.SendAgain) again) (step (Ok due.GaveUp) over)) (step (Ok due.NotYet) still))
+        (step (Err refusal.Phase) n.attempt))
+        (step (Err refusal.Clock) n.attempt))
+        (step (Err refusal.Range) n.attempt)))
+        (polled (Err refusal.Range) n)).due
         ≡ due_by v f l w t c
     go again over still false f l w t c = refl
     go again over still true false l w t c = refl
@@ -307,8 +305,8 @@ one_left false = refl
 placed_by_lem :
     (v : Verdict) (delivery : Delivery) (n : Node) (time : ℕ) (c : Configuration) (s : KeySets) →
     verdict_number (placed_by v delivery n time c s).verdict ≡ verdict_number v
-placed_by_lem (verdict.Refused k) delivery n time c s = refl
-placed_by_lem verdict.Accepted delivery n time c s = refl
+placed_by_lem (Err k) delivery n time c s = refl
+placed_by_lem (Ok tt) delivery n time c s = refl
 
 module _ (delivery : Delivery) (n : Node) (time : ℕ) where
   abbrev last : Configuration → List ℕ
@@ -358,17 +356,17 @@ module _ (delivery : Delivery) (n : Node) (time : ℕ) where
   fitted-number c h = apply-number (fitted n c) (fitted-keys n c h) ∙ rw (fitted-network n c, fitted-clashes c h)
 
   read_number :
-      (v : Verdict) (c : Configuration) → (v ≡ verdict.Accepted → keys_in_range c.keys ≡ true) →
+      (v : Verdict) (c : Configuration) → (v ≡ Ok tt → keys_in_range c.keys ≡ true) →
       verdict_number (apply_read v delivery n time c).verdict ≡ in_order (verdict_number v ∷ last c)
-  read_number (verdict.Refused k) c h = sym (refused-first k (last c))
-  read_number verdict.Accepted c h = fitted-number c (h refl)
+  read_number (Err k) c h = sym (refused-first k (last c))
+  read_number (Ok tt) c h = fitted-number c (h refl)
 
   come-by :
-      (l t b : Bool) (r : ConfigurationRead) → (r.verdict ≡ verdict.Accepted → keys_in_range r.configuration.keys ≡ true) →
+      (l t b : Bool) (r : ConfigurationRead) → (r.verdict ≡ Ok tt → keys_in_range r.configuration.keys ≡ true) →
       verdict_number
       (deliver_by
-      (cond l (cond t (cond b verdict.Accepted (verdict.Refused refusal.Phase)) (verdict.Refused refusal.Clock))
-      (verdict.Refused refusal.Long))
+      (cond l (cond t (cond b (Ok tt) (Err refusal.Phase)) (Err refusal.Clock))
+      (Err refusal.Long))
       delivery n time r).verdict
       ≡ in_order (refused_if (not l) 15 ∷ refused_if (not t) 11 ∷ refused_if (not b) 16 ∷ verdict_number r.verdict ∷ last r.configuration)
   come-by false t b r h = refl
@@ -400,7 +398,7 @@ module _ (delivery : Delivery) (n : Node) (time : ℕ) where
       go :
           (v : Bool) → valid n ≡ v →
           verdict_number
-          (deliver_by (cond v (may_come delivery n.attempt time (length payload)) (verdict.Refused refusal.Range)) delivery n time
+          (deliver_by (cond v (may_come delivery n.attempt time (length payload)) (Err refusal.Range)) delivery n time
           (read_for n payload)).verdict
           ≡ in_order (refused_if (not v) 13 ∷ rest)
       go false e = refl
@@ -410,7 +408,7 @@ module _ (delivery : Delivery) (n : Node) (time : ℕ) where
           (λ a. (R n.version payload a).keys))
 
   clash-discarded :
-      ReadsInRange → (payload : List ℕ) → (deliver delivery n time payload).verdict ≡ verdict.Accepted → n.version ≡ Published →
+      ReadsInRange → (payload : List ℕ) → (deliver delivery n time payload).verdict ≡ Ok tt → n.version ≡ Published →
       clashes n (read_for n payload).configuration.keys ≡ true → (deliver delivery n time payload).dispositions.keys ≡ Discarded
   unfolding dispositions_of
   clash-discarded R payload a p e =
@@ -421,7 +419,7 @@ module _ (delivery : Delivery) (n : Node) (time : ℕ) where
 -- ---- the question whether the address holds
 held_number :
     (v l h : Bool) →
-    holding_number (cond v (cond l (cond h holding.Valid holding.Expired) (holding.Refused refusal.Clock)) (holding.Refused refusal.Range))
+    holding_number (cond v (cond l (cond h (Ok holding.Valid) (Ok holding.Expired)) (Err refusal.Clock)) (Err refusal.Range))
     ≡ in_order (refused_if (not v) 13 ∷ refused_if (not l) 11 ∷ [])
 held_number false l h = refl
 held_number true false h = refl
@@ -430,7 +428,7 @@ held_number true true true = refl
 
 held_by :
     (v l h : Bool) →
-    holds_now (cond v (cond l (cond h holding.Valid holding.Expired) (holding.Refused refusal.Clock)) (holding.Refused refusal.Range))
+    holds_now (cond v (cond l (cond h (Ok holding.Valid) (Ok holding.Expired)) (Err refusal.Clock)) (Err refusal.Range))
     ≡ (v && not (not l) && h)
 held_by false l h = refl
 held_by true false h = refl
@@ -451,7 +449,7 @@ abbrev answered : Bool → Bool → KeyAnswer → KeyAnswer
 answered v t x = cond v (cond t x (without_key refusal.Range)) (without_key refusal.Range)
 
 -- one that is accepted has passed both tests
-passed : (v t : Bool) (x : KeyAnswer) → (answered v t x).verdict ≡ verdict.Accepted → (answered v t x ≡ x) × (x.verdict ≡ verdict.Accepted)
+passed : (v t : Bool) (x : KeyAnswer) → (answered v t x).verdict ≡ Ok tt → (answered v t x ≡ x) × (x.verdict ≡ Ok tt)
 passed false t x e = refused-not refusal.Range e
 passed true false x e = refused-not refusal.Range e
 passed true true x e = (refl, e)
@@ -504,12 +502,12 @@ received-number type true true (some k) = go (covers k type)
     go true = refl
     go false = refl
 
-received-key : (type : ℕ) (o : Option Key) → (if_covers type o).verdict ≡ verdict.Accepted → o ≡ some (if_covers type o).key
+received-key : (type : ℕ) (o : Option Key) → (if_covers type o).verdict ≡ Ok tt → o ≡ some (if_covers type o).key
 received-key type none e = refused-not refusal.Silent e
 received-key type (some k) e = go (covers k type) e
   where
     go :
-        (b : Bool) → (cond b (with_key k) (without_key refusal.Silent)).verdict ≡ verdict.Accepted →
+        (b : Bool) → (cond b (with_key k) (without_key refusal.Silent)).verdict ≡ Ok tt →
         some k ≡ some (cond b (with_key k) (without_key refusal.Silent)).key
     go true f = refl
     go false f = refused-not refusal.Silent f
@@ -525,7 +523,7 @@ module _ (n : Node) (type identifier : ℕ) where
   unfolding receive receiving_key
   receive-number = received-number type (valid n) (known_type type && not (eqb identifier 0)) (held_key n.sets identifier)
 
-  receive-key : (receive n type identifier).verdict ≡ verdict.Accepted → held_key n.sets identifier ≡ some (receive n type identifier).key
+  receive-key : (receive n type identifier).verdict ≡ Ok tt → held_key n.sets identifier ≡ some (receive n type identifier).key
   unfolding receive receiving_key
   receive-key e =
       let p = passed (valid n) (known_type type && not (eqb identifier 0)) (if_covers type (held_key n.sets identifier)) e in
@@ -533,19 +531,19 @@ module _ (n : Node) (type identifier : ℕ) where
 
   -- the report, by the verdict of receiving and by whether the identifier is active
   effect-by : (v : Verdict) (h : Bool) → change_number (effect_by v h n.sets).change ≡ verdict_number v
-  effect-by (verdict.Refused k) h = refl
-  effect-by verdict.Accepted true = refl
-  effect-by verdict.Accepted false = refl
+  effect-by (Err k) h = refl
+  effect-by (Ok tt) true = refl
+  effect-by (Ok tt) false = refl
 
   switched-by : (v : Verdict) (h : Bool) → has_switched (effect_by v h n.sets).change ≡ (is_accepted v && not h)
-  switched-by (verdict.Refused k) h = refl
-  switched-by verdict.Accepted true = refl
-  switched-by verdict.Accepted false = refl
+  switched-by (Err k) h = refl
+  switched-by (Ok tt) true = refl
+  switched-by (Ok tt) false = refl
 
   kept_by : (v : Verdict) (h : Bool) → has_kept (effect_by v h n.sets).change ≡ (is_accepted v && h)
-  kept_by (verdict.Refused k) h = refl
-  kept_by verdict.Accepted true = refl
-  kept_by verdict.Accepted false = refl
+  kept_by (Err k) h = refl
+  kept_by (Ok tt) true = refl
+  kept_by (Ok tt) false = refl
 
   abbrev receive_by : Bool → KeyAnswer
   receive_by b = cond b (receiving_key n.sets type identifier) (without_key refusal.Range)
@@ -554,7 +552,7 @@ module _ (n : Node) (type identifier : ℕ) where
   active = has identifier (active_of n)
 
   abbrev report_by : Bool → VerifyResult
-  report_by b = cond b (reported_by n (verified_in n.sets type identifier)) (reported (change.Refused refusal.Range) n)
+  report_by b = cond b (reported_by n (verified_in n.sets type identifier)) (reported (Err refusal.Range) n)
 
   report-number : change_number (verified n type identifier).change ≡ verdict_number (receive n type identifier).verdict
   unfolding verified verified_in receive

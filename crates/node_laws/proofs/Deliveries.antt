@@ -1,5 +1,6 @@
 -- A refused configuration leaves the node; an accepted one leaves a valid node valid, since what it holds is in range and its key set
 -- is placed by the three rules; a border node has the set active at once.
+use Rattle.std.specs.Prelude.{Ok, Err}
 use Prim.Native.Nat.{ℕ, ◌≤◌}
 use native.Mathlib.Omega.{arith}
 use mathlib.Core.Path.{◌≡◌, refl, sym, ◌∙◌, ap}
@@ -11,8 +12,7 @@ use lib.ListN.{length}
 use Rattle.refusal.specs.RefusalLemmas.{refused-not}
 use Rattle.refusal.specs.declared.Refusal.{Refusal}
 use Rattle.refusal.specs.declared.Refusal.TheVariants as refusal
-use Rattle.refusal.specs.declared.Verdict.{Verdict}
-use Rattle.refusal.specs.declared.Verdict.TheVariants as verdict
+use Rattle.refusal.specs.Verdict.{Verdict}
 use Rattle.link_key.specs.declared.Key.{Key}
 use Rattle.link_key.specs.set.KeySet.{keys_of, additional_info_allowed}
 use Rattle.link_key.specs.declared.set.key_set.KeySet.{KeySet}
@@ -61,7 +61,7 @@ use Rattle.node_laws.proofs.Forms.{fitted-taken, fitted-range, may-inform, octet
 -- ---- refusals
 -- where it is refused, the node is as it was, and the report is empty
 abbrev Leaves : Node → DeliveryResult → Type 0
-Leaves n m = (k : Refusal) → m.verdict ≡ verdict.Refused k → (m.node ≡ n) × (m.dispositions ≡ no_dispositions)
+Leaves n m = (k : Refusal) → m.verdict ≡ Err k → (m.node ≡ n) × (m.dispositions ≡ no_dispositions)
 
 module _ (n : Node) where
   no-leaves : (k : Refusal) → Leaves n (undelivered k n)
@@ -76,8 +76,8 @@ module _ (n : Node) where
 
   placed-leaves : (v : Verdict) (delivery : Delivery) (time : ℕ) (c : Configuration) (s : KeySets)
       → Leaves n (placed_by v delivery n time c s)
-  placed-leaves (verdict.Refused k) delivery time c s = no-leaves k
-  placed-leaves verdict.Accepted delivery time c s =
+  placed-leaves (Err k) delivery time c s = no-leaves k
+  placed-leaves (Ok tt) delivery time c s =
       yes-leaves (dispositions_of (is_border n) c) (configured delivery n time c s (dispositions_of (is_border n) c))
 
   apply-leaves : (delivery : Delivery) (time : ℕ) (c : Configuration) → Leaves n (apply delivery n time c)
@@ -87,12 +87,12 @@ module _ (n : Node) where
       (placed-leaves (placement_of n c.keys).verdict delivery time c (placement_of n c.keys).sets)
 
   read-leaves : (v : Verdict) (delivery : Delivery) (time : ℕ) (c : Configuration) → Leaves n (apply_read v delivery n time c)
-  read-leaves (verdict.Refused k) delivery time c = no-leaves k
-  read-leaves verdict.Accepted delivery time c = apply-leaves delivery time (fitted n c)
+  read-leaves (Err k) delivery time c = no-leaves k
+  read-leaves (Ok tt) delivery time c = apply-leaves delivery time (fitted n c)
 
   by-leaves : (v : Verdict) (delivery : Delivery) (time : ℕ) (r : ConfigurationRead) → Leaves n (deliver_by v delivery n time r)
-  by-leaves (verdict.Refused k) delivery time r = no-leaves k
-  by-leaves verdict.Accepted delivery time r = read-leaves r.verdict delivery time r.configuration
+  by-leaves (Err k) delivery time r = no-leaves k
+  by-leaves (Ok tt) delivery time r = read-leaves r.verdict delivery time r.configuration
 
   pub deliver-leaves : (delivery : Delivery) (time : ℕ) (payload : List ℕ) → Leaves n (deliver delivery n time payload)
   unfolding deliver
@@ -102,8 +102,8 @@ module _ (n : Node) where
 -- the tests before it passed
 record Passed (delivery : Delivery) (n : Node) (time : ℕ) (payload : List ℕ) : Type 0 where
   later : clock_of n ≤ time
-  read : (read_for n payload).verdict ≡ verdict.Accepted
-  placed : (placement_of n (configuration_in n payload).keys).verdict ≡ verdict.Accepted
+  read : (read_for n payload).verdict ≡ Ok tt
+  placed : (placement_of n (configuration_in n payload).keys).verdict ≡ Ok tt
   is :
       deliver delivery n time payload
       ≡ delivered (dispositions_of (is_border n) (configuration_in n payload))
@@ -111,29 +111,29 @@ record Passed (delivery : Delivery) (n : Node) (time : ℕ) (payload : List ℕ)
       (dispositions_of (is_border n) (configuration_in n payload)))
 
 -- a test that refuses where it is true did not
-failed : (b : Bool) (x : DeliveryResult) (k : Refusal) (n : Node) → (cond b (undelivered k n) x).verdict ≡ verdict.Accepted → b ≡ false
+failed : (b : Bool) (x : DeliveryResult) (k : Refusal) (n : Node) → (cond b (undelivered k n) x).verdict ≡ Ok tt → b ≡ false
 failed true x k n e = refused-not k e
 failed false x k n e = refl
 
 accepted-placed :
     (v : Verdict) (delivery : Delivery) (n : Node) (time : ℕ) (c : Configuration) (s : KeySets) →
-    (placed_by v delivery n time c s).verdict ≡ verdict.Accepted → v ≡ verdict.Accepted
-accepted-placed (verdict.Refused k) delivery n time c s e = refused-not k e
-accepted-placed verdict.Accepted delivery n time c s e = refl
+    (placed_by v delivery n time c s).verdict ≡ Ok tt → v ≡ Ok tt
+accepted-placed (Err k) delivery n time c s e = refused-not k e
+accepted-placed (Ok tt) delivery n time c s e = refl
 
 accepted-read :
     (v : Verdict) (delivery : Delivery) (n : Node) (time : ℕ) (c : Configuration) →
-    (apply_read v delivery n time c).verdict ≡ verdict.Accepted → v ≡ verdict.Accepted
-accepted-read (verdict.Refused k) delivery n time c e = refused-not k e
-accepted-read verdict.Accepted delivery n time c e = refl
+    (apply_read v delivery n time c).verdict ≡ Ok tt → v ≡ Ok tt
+accepted-read (Err k) delivery n time c e = refused-not k e
+accepted-read (Ok tt) delivery n time c e = refl
 
 accepted-by :
     (v : Verdict) (delivery : Delivery) (n : Node) (time : ℕ) (r : ConfigurationRead) →
-    (deliver_by v delivery n time r).verdict ≡ verdict.Accepted → v ≡ verdict.Accepted
-accepted-by (verdict.Refused k) delivery n time r e = refused-not k e
-accepted-by verdict.Accepted delivery n time r e = refl
+    (deliver_by v delivery n time r).verdict ≡ Ok tt → v ≡ Ok tt
+accepted-by (Err k) delivery n time r e = refused-not k e
+accepted-by (Ok tt) delivery n time r e = refl
 
-not-early : (delivery : Delivery) (n : Node) (time len : ℕ) → deliver_verdict delivery n time len ≡ verdict.Accepted
+not-early : (delivery : Delivery) (n : Node) (time len : ℕ) → deliver_verdict delivery n time len ≡ Ok tt
     → leb (clock_of n) time ≡ true
 unfolding deliver_verdict may_come
 not-early delivery n time len =
@@ -141,13 +141,14 @@ not-early delivery n time len =
   where
     go :
         (v f l t b : Bool) →
-        cond v
+        ◌≡◌ {A = Verdict}
+        (cond v
         (cond f
-        (cond l (cond t (cond b verdict.Accepted (verdict.Refused refusal.Phase)) (verdict.Refused refusal.Clock))
-        (verdict.Refused refusal.Long))
-        (verdict.Refused refusal.Range))
-        (verdict.Refused refusal.Range)
-        ≡ verdict.Accepted → t ≡ true
+        (cond l (cond t (cond b (Ok tt) (Err refusal.Phase)) (Err refusal.Clock))
+        (Err refusal.Long))
+        (Err refusal.Range))
+        (Err refusal.Range))
+        (Ok tt) → t ≡ true
     go false f l t b e = refused-not refusal.Range e
     go true false l t b e = refused-not refusal.Range e
     go true true false t b e = refused-not refusal.Long e
@@ -158,7 +159,7 @@ module _ (delivery : Delivery) (n : Node) (time : ℕ) (payload : List ℕ) wher
   abbrev c : Configuration
   c = configuration_in n payload
 
-  accepted-passed : (deliver delivery n time payload).verdict ≡ verdict.Accepted → Passed delivery n time payload
+  accepted-passed : (deliver delivery n time payload).verdict ≡ Ok tt → Passed delivery n time payload
   unfolding deliver apply
   accepted-passed e =
       let v = accepted-by (deliver_verdict delivery n time (length payload)) delivery n time (read_for n payload) e in
@@ -176,7 +177,7 @@ module _ (delivery : Delivery) (n : Node) (time : ℕ) (payload : List ℕ) wher
       }
 
 pub accepted-is :
-    (delivery : Delivery) (n : Node) (time : ℕ) (payload : List ℕ) → (deliver delivery n time payload).verdict ≡ verdict.Accepted →
+    (delivery : Delivery) (n : Node) (time : ℕ) (payload : List ℕ) → (deliver delivery n time payload).verdict ≡ Ok tt →
     deliver delivery n time payload
     ≡ delivered (dispositions_of (is_border n) (configuration_in n payload))
     (configured delivery n time (configuration_in n payload) (placement_of n (configuration_in n payload).keys).sets
@@ -184,13 +185,13 @@ pub accepted-is :
 accepted-is delivery n time payload e = (accepted-passed delivery n time payload e).is
 
 pub accepted-reports :
-    (delivery : Delivery) (n : Node) (time : ℕ) (payload : List ℕ) → (deliver delivery n time payload).verdict ≡ verdict.Accepted →
+    (delivery : Delivery) (n : Node) (time : ℕ) (payload : List ℕ) → (deliver delivery n time payload).verdict ≡ Ok tt →
     (deliver delivery n time payload).dispositions ≡ dispositions_of (is_border n) (configuration_in n payload)
 accepted-reports delivery n time payload e = ap (λ (m : DeliveryResult). m.dispositions) (accepted-passed delivery n time payload e).is
 
 pub accepted-reading :
-    (delivery : Delivery) (n : Node) (time : ℕ) (payload : List ℕ) → (deliver delivery n time payload).verdict ≡ verdict.Accepted →
-    (read_for n payload).verdict ≡ verdict.Accepted
+    (delivery : Delivery) (n : Node) (time : ℕ) (payload : List ℕ) → (deliver delivery n time payload).verdict ≡ Ok tt →
+    (read_for n payload).verdict ≡ Ok tt
 accepted-reading delivery n time payload e = (accepted-passed delivery n time payload e).read
 
 -- ---- the other parameters
@@ -223,8 +224,8 @@ deliver-part :
 deliver-part part delivery n time payload f = go (deliver delivery n time payload).verdict refl
   where
     go : (w : Verdict) → (deliver delivery n time payload).verdict ≡ w → part (deliver delivery n time payload).node ≡ part n
-    go (verdict.Refused k) e = ap part (deliver-leaves n delivery time payload k e).0
-    go verdict.Accepted e = ap (λ (m : DeliveryResult). part m.node) (accepted-passed delivery n time payload e).is ∙ f _ _ _
+    go (Err k) e = ap part (deliver-leaves n delivery time payload k e).0
+    go (Ok tt) e = ap (λ (m : DeliveryResult). part m.node) (accepted-passed delivery n time payload e).is ∙ f _ _ _
 
 pub deliver-role : (delivery : Delivery) (n : Node) (time : ℕ) (payload : List ℕ) → (deliver delivery n time payload).node.role ≡ n.role
 unfolding configured
@@ -250,8 +251,8 @@ unfolding configured dispositions_of
 untaken-stays delivery n time payload f = go (deliver delivery n time payload).verdict refl
   where
     go : (w : Verdict) → (deliver delivery n time payload).verdict ≡ w → (deliver delivery n time payload).node.sets ≡ n.sets
-    go (verdict.Refused k) e = ap (λ (m : Node). m.sets) (deliver-leaves n delivery time payload k e).0
-    go verdict.Accepted e =
+    go (Err k) e = ap (λ (m : Node). m.sets) (deliver-leaves n delivery time payload k e).0
+    go (Ok tt) e =
         let is = accepted-is delivery n time payload e in
         let c = configuration_in n payload in
         ap (λ (m : DeliveryResult). m.node.sets) is
@@ -260,7 +261,7 @@ untaken-stays delivery n time payload f = go (deliver delivery n time payload).v
 -- ---- a border node that takes a set
 border-place :
     (n : Node) (r : Disposition) (set : KeySet) → n.role ≡ 1 → r ≡ Taken →
-    (if_taken r (install (is_border n) n.sets set) (placed n.sets)).verdict ≡ verdict.Accepted →
+    (if_taken r (install (is_border n) n.sets set) (placed n.sets)).verdict ≡ Ok tt →
     (if_taken r (install (is_border n) n.sets set) (placed n.sets)).sets ≡ two_sets (inherit_counters n.sets.active set) no_counted
 border-place n r set b e a =
     let border = eq-eqb n.role 1 b in
@@ -320,8 +321,8 @@ module _ (K : KeyLaws) (C : CounterLaws) (R : ReadsInRange) (F : ErrorReportsVal
   deliver-valid delivery n time payload v = go (deliver delivery n time payload).verdict refl
     where
       go : (w : Verdict) → (deliver delivery n time payload).verdict ≡ w → Valid (deliver delivery n time payload).node
-      go (verdict.Refused k) e = rw (deliver-leaves n delivery time payload k e).0 v
-      go verdict.Accepted e =
+      go (Err k) e = rw (deliver-leaves n delivery time payload k e).0 v
+      go (Ok tt) e =
           let p = accepted-passed delivery n time payload e in
           rw p.is
           (configured-valid delivery n time (configuration_in n payload) v p.later

@@ -1,9 +1,9 @@
 -- A key set within its limits can be placed exactly where it does not clash; so the node's form and that test say what is applied.
+use Rattle.std.specs.Prelude.{Ok, Err}
 use mathlib.Core.Path.{◌≡◌, refl, ◌∙◌}
 use mathlib.Core.Bool.{Bool, true, false, cond, not, ◌&&◌}
 use Rattle.refusal.specs.declared.Refusal.TheVariants.{Clash}
-use Rattle.refusal.specs.declared.Verdict.{Verdict}
-use Rattle.refusal.specs.declared.Verdict.TheVariants.{Accepted, Refused}
+use Rattle.refusal.specs.Verdict.{Verdict}
 use Rattle.link_key.specs.set.KeySet.{keys_of, valid_set, same_keys, shares}
 use Rattle.link_key.specs.declared.set.key_set.KeySet.{KeySet}
 use Rattle.cojp.specs.Configuration.{with_keys}
@@ -27,7 +27,7 @@ use Rattle.node_laws.specs.Fitted.{KeysDiscarded, ClashLeavesRest}
 
 -- ---- whether a set can be placed
 abbrev pub placed_as : Bool → Verdict
-placed_as clash = cond clash (Refused Clash) Accepted
+placed_as clash = cond clash (Err Clash) (Ok tt)
 
 place-by :
     (s : KeySets) (set : KeySet) (border same shared : Bool) →

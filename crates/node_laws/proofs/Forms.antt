@@ -1,12 +1,12 @@
 -- What a node applies is of its form: reading takes nothing else, and leaving out a key set changes nothing of that. So what the node holds
 -- afterwards is of its form too.
+use Rattle.std.specs.Prelude.{Ok, Err}
 use Prim.Native.Nat.{ℕ}
 use mathlib.Core.Path.{◌≡◌, refl, ◌∙◌, ap, subst}
 use mathlib.Core.Bool.{Bool, true, false, not, ◌&&◌}
 use lib.Dec.{leb}
 use Rattle.lemmas.specs.logic.Tests.{both, both_left, both_right, never}
-use Rattle.refusal.specs.declared.Verdict.{Verdict}
-use Rattle.refusal.specs.declared.Verdict.TheVariants as verdict
+use Rattle.refusal.specs.Verdict.{Verdict}
 use Rattle.link_key.specs.set.KeySet.{keys_of, additional_info_allowed}
 use Rattle.cojp.specs.DispositionLemmas.{missing-keeps}
 use Rattle.cojp.specs.ErrorReports.{error_reports_valid}
@@ -51,8 +51,8 @@ module _ (n : Node) (c : Configuration) where
     where
       go : (v : Version) (w : Verdict) → (by_version v c (fitted_by w c)).network ≡ c.network
       go Draft w = refl
-      go Published verdict.Accepted = refl
-      go Published (verdict.Refused k) = refl
+      go Published (Ok tt) = refl
+      go Published (Err k) = refl
 
   pub fitted-taken : (fitted n c).keys.disposition ≡ Taken → (fitted n c).keys ≡ c.keys
   unfolding fitted
@@ -61,8 +61,8 @@ module _ (n : Node) (c : Configuration) where
       go : (v : Version) (w : Verdict) → (by_version v c (fitted_by w c)).keys.disposition ≡ Taken
           → (by_version v c (fitted_by w c)).keys ≡ c.keys
       go Draft w e = refl
-      go Published verdict.Accepted e = refl
-      go Published (verdict.Refused k) e = never (if_taken Discarded true false) (ap (λ (r : Disposition). if_taken r true false) e) refl
+      go Published (Ok tt) e = refl
+      go Published (Err k) e = never (if_taken Discarded true false) (ap (λ (r : Disposition). if_taken r true false) e) refl
 
   pub fitted-keys : keys_in_range c.keys ≡ true → keys_in_range (fitted n c).keys ≡ true
   unfolding fitted
@@ -70,8 +70,8 @@ module _ (n : Node) (c : Configuration) where
     where
       go : (v : Version) (w : Verdict) → keys_in_range c.keys ≡ true → keys_in_range (by_version v c (fitted_by w c)).keys ≡ true
       go Draft w e = e
-      go Published verdict.Accepted e = e
-      go Published (verdict.Refused k) e = refl
+      go Published (Ok tt) e = e
+      go Published (Err k) e = refl
 
   pub fitted-range : InRange n.version c → InRange n.version (fitted n c)
   unfolding fitted of_version
@@ -79,8 +79,8 @@ module _ (n : Node) (c : Configuration) where
     where
       go : (v : Version) (w : Verdict) → InRange v c → InRange v (by_version v c (fitted_by w c))
       go Draft w r = r
-      go Published verdict.Accepted r = r
-      go Published (verdict.Refused k) r = record {
+      go Published (Ok tt) r = r
+      go Published (Err k) r = record {
         keys = refl;
         address = r.address;
         jrc = r.jrc;

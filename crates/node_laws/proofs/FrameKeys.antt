@@ -1,4 +1,5 @@
 -- Keys for frames: a valid node answers as its key sets do, and a verified frame leaves the sets or switches them.
+use Rattle.std.specs.Prelude.{Ok, Err}
 use Prim.Native.Nat.{ℕ}
 use native.Mathlib.Omega.{arith}
 use mathlib.Core.Path.{◌≡◌, refl, sym, ◌∙◌, ap}
@@ -10,7 +11,6 @@ use mathlib.Core.List.Memᴰ
 use mathlib.Core.List.{Memᴰ}
 use Rattle.refusal.specs.RefusalLemmas.{refused-not}
 use Rattle.refusal.specs.declared.Refusal.TheVariants as refusal
-use Rattle.refusal.specs.declared.Verdict.TheVariants as verdict
 use Rattle.link_key.specs.Key.{covers}
 use Rattle.link_key.specs.set.KeySet.{keys_of, Covers}
 use Rattle.link_key.specs.declared.Key.{Key}
@@ -39,7 +39,7 @@ use Rattle.node_laws.proofs.Valid.{keys-valid, keys-plain, attempt-valid, addres
 use Rattle.node_laws.proofs.KeysStay.{stay-self, stay-keyed}
 
 -- an accepted answer comes of a valid node
-answered-valid : (b : Bool) (x : KeyAnswer) → (cond b x (without_key refusal.Range)).verdict ≡ verdict.Accepted → b ≡ true
+answered-valid : (b : Bool) (x : KeyAnswer) → (cond b x (without_key refusal.Range)).verdict ≡ Ok tt → b ≡ true
 answered-valid true x e = refl
 answered-valid false x e = absurd (let z : ◌≡◌ {A = ℕ} 0 1 = cc in omega arith)
 
@@ -59,12 +59,12 @@ module _ (C : CounterLaws) (n : Node) (type : ℕ) where
   send-is v = ap (λ (b : Bool). (asked b).answer) v
 
   asked-from :
-      (b : Bool) → (asked b).answer.verdict ≡ verdict.Accepted →
+      (b : Bool) → (asked b).answer.verdict ≡ Ok tt →
       Memᴰ (asked b).answer.key (active_of n) × (covers (asked b).answer.key type ≡ true)
   asked-from true a = sets.sent-from C n.sets type a
   asked-from false a = refused-not refusal.Range a
 
-  pub send-from : (send n type).verdict ≡ verdict.Accepted → Sends n type
+  pub send-from : (send n type).verdict ≡ Ok tt → Sends n type
   unfolding send sending
   send-from a = let s = asked-from (valid n) a in record { accepted = a; member = s.0; covering = s.1 }
 
@@ -82,13 +82,13 @@ module _ (C : CounterLaws) (n : Node) (type : ℕ) where
           (record { slot = x; member = Memᴰ.append_left (slots_of n.sets.pending) m; key = refl; last = f })
 
   asked-counts :
-      (b : Bool) → (asked b).answer.verdict ≡ verdict.Accepted →
+      (b : Bool) → (asked b).answer.verdict ≡ Ok tt →
       (x : Slot) × (first_serving type n.sets.active ≡ some x) × ((asked b).answer.key ≡ x.key) × ((asked b).counter ≡ x.counter)
       × ((asked b).node ≡ keyed n (two_sets (raised n.sets.active x) n.sets.pending))
   asked-counts true a = let c = sets.sent-counts C n.sets type a in (c.slot, c.first, c.key, c.counter, ap (keyed n) c.sets)
   asked-counts false a = refused-not refusal.Range a
 
-  pub send-counts : (send n type).verdict ≡ verdict.Accepted → Counts n type
+  pub send-counts : (send n type).verdict ≡ Ok tt → Counts n type
   unfolding send send_counter after_send sending
   send-counts a =
       let c = asked-counts (valid n) a in
@@ -136,7 +136,7 @@ module _ (K : KeyLaws) where
     receive-is v = rw v
 
     pub receive-from :
-        (receive n type identifier).verdict ≡ verdict.Accepted →
+        (receive n type identifier).verdict ≡ Ok tt →
         (Memᴰ (receive n type identifier).key (active_of n) ⊎ Memᴰ (receive n type identifier).key (pending_of n))
         × ((receive n type identifier).key.identifier ≡ identifier)
         × (covers (receive n type identifier).key type ≡ true)
@@ -184,7 +184,7 @@ module _ (K : KeyLaws) where
         (sets.verified-either K n.sets type identifier)
 
     abbrev report_by : Bool → VerifyResult
-    report_by b = cond b (reported_by n (verified_in n.sets type identifier)) (reported (change.Refused refusal.Range) n)
+    report_by b = cond b (reported_by n (verified_in n.sets type identifier)) (reported (Err refusal.Range) n)
 
     pub verified-either : KeysStay n (verified n type identifier).node
         ⊎ (Switching n type identifier × Switched n (verified n type identifier).node)
@@ -205,10 +205,10 @@ module _ (K : KeyLaws) where
         (sets.verified-switches K (is_border n) n.sets type identifier (keys-valid n v)
         (record { key = s.key; identified = s.identified; member = s.member; covering = s.covering; absent = s.absent })))
 
-    pub verified-says : (verified n type identifier).change ≡ change.Switched → Switched n (verified n type identifier).node
+    pub verified-says : (verified n type identifier).change ≡ Ok change.Switched → Switched n (verified n type identifier).node
     unfolding verified
     verified-says = go (valid n)
       where
-        go : (b : Bool) → (report_by b).change ≡ change.Switched → Switched n (report_by b).node
+        go : (b : Bool) → (report_by b).change ≡ Ok change.Switched → Switched n (report_by b).node
         go true e = switched-keyed n reported_sets (sets.verified-says K n.sets type identifier e)
         go false e = absurd (let z : ◌≡◌ {A = ℕ} 0 1 = cc in omega arith)

@@ -1,13 +1,12 @@
 -- Polled when due, a valid node answers as its join attempt does, which gives up 31t after its start.
+use Rattle.std.specs.Prelude.{Result, Ok, Err}
+use Rattle.refusal.specs.declared.Refusal.{Refusal}
 use Prim.Native.Nat.{ℕ, zero, suc, ◌+◌, ◌≤◌}
 use mathlib.Core.Path.{◌≡◌, refl, sym, ◌∙◌, ap, subst}
 use mathlib.Core.List.{List}
 use Rattle.refusal.specs.RefusalLemmas.{refused-not}
-use Rattle.refusal.specs.declared.Verdict.{Verdict}
-use Rattle.refusal.specs.declared.Verdict.TheVariants as verdict
+use Rattle.refusal.specs.Verdict.{Verdict}
 use Rattle.byte_io.specs.Write.{Plan, answer}
-use Rattle.byte_io.specs.declared.WriteResult.{WriteResult}
-use Rattle.byte_io.specs.declared.WriteResult.TheVariants as written
 use Rattle.cojp.specs.Writing.{request_plan}
 use Rattle.node_attempt.specs.Attempt.{waiting_from}
 use Rattle.node_attempt.specs.Poll as attempt
@@ -22,18 +21,18 @@ use Rattle.node_laws.proofs.Timings.{start-passed, start-stays, poll-is, poll-st
 
 -- ---- an accepted start
 begun-by :
-    (n m : Node) (d : List ℕ) (v : Verdict) (p : Plan) → (started_by (answer (plan_by v p) d) n m).verdict ≡ verdict.Accepted →
-    (v ≡ verdict.Accepted) × ((started_by (answer (plan_by v p) d) n m).node ≡ m)
-begun-by n m d (verdict.Refused k) p e = refused-not k e
-begun-by n m d verdict.Accepted p e = (refl, go (answer p d) e)
+    (n m : Node) (d : List ℕ) (v : Verdict) (p : Plan) → (started_by (answer (plan_by v p) d) n m).verdict ≡ Ok tt →
+    (v ≡ Ok tt) × ((started_by (answer (plan_by v p) d) n m).node ≡ m)
+begun-by n m d (Err k) p e = refused-not k e
+begun-by n m d (Ok tt) p e = (refl, go (answer p d) e)
   where
-    go : (w : WriteResult) → (started_by w n m).verdict ≡ verdict.Accepted → (started_by w n m).node ≡ m
-    go (written.Refused k) f = refused-not k f
-    go (written.Length l) f = refl
+    go : (w : Result ℕ Refusal) → (started_by w n m).verdict ≡ Ok tt → (started_by w n m).node ≡ m
+    go (Err k) f = refused-not k f
+    go (Ok l) f = refl
 
 started :
-    (n : Node) (time timeout : ℕ) (d : List ℕ) → (start n time timeout d).verdict ≡ verdict.Accepted →
-    (start_verdict n time timeout ≡ verdict.Accepted) × ((start n time timeout d).node ≡ started_from n time timeout)
+    (n : Node) (time timeout : ℕ) (d : List ℕ) → (start n time timeout d).verdict ≡ Ok tt →
+    (start_verdict n time timeout ≡ Ok tt) × ((start n time timeout d).node ≡ started_from n time timeout)
 unfolding start start_plan
 started n time timeout d e =
     begun-by n (started_from n time timeout) d (start_verdict n time timeout) (request_plan n.version (request_of n)) e

@@ -1,11 +1,11 @@
 -- A node that is made is a fresh one with a role and a network identifier that were judged, or the empty one beside a refusal.
+use Rattle.std.specs.Prelude.{Ok}
 use Prim.Native.Nat.{ℕ}
 use mathlib.Core.Path.{◌≡◌, refl}
 use mathlib.Core.Bool.{Bool, true, false, ◌||◌}
 use lib.Dec.{eqb}
 use Rattle.refusal.specs.RefusalLemmas.{refused-not}
 use Rattle.refusal.specs.declared.Refusal.TheVariants.{Range}
-use Rattle.refusal.specs.declared.Verdict.TheVariants.{Accepted}
 use Rattle.lemmas.specs.logic.Tests.{all-four}
 use Rattle.cojp.specs.ErrorReports.{valid_error_reports, error_reports_valid}
 use Rattle.protocol_version.specs.Version.{allows_additional_info}
@@ -68,17 +68,17 @@ module _ (version : Version) (role : ℕ) (network : HeldOctets) where
 
   -- what holds of the fresh one holds where it was accepted
   accepted :
-      (P : MakeResult → Type 0) → P (record { verdict = Accepted; node = fresh_node version role (known_octets network) }) →
-      (made version role network).verdict ≡ Accepted → P (made version role network)
+      (P : MakeResult → Type 0) → P (record { verdict = Ok tt; node = fresh_node version role (known_octets network) }) →
+      (made version role network).verdict ≡ Ok tt → P (made version role network)
   accepted P p =
-      made-cases (λ (m : MakeResult). m.verdict ≡ Accepted → P m) version role network (λ _ _ e. p) (λ e. refused-not Range e)
+      made-cases (λ (m : MakeResult). m.verdict ≡ Ok tt → P m) version role network (λ _ _ e. p) (λ e. refused-not Range e)
 
-  pub made-version : (made version role network).verdict ≡ Accepted → (made version role network).node.version ≡ version
+  pub made-version : (made version role network).verdict ≡ Ok tt → (made version role network).node.version ≡ version
   made-version = accepted (λ (m : MakeResult). m.node.version ≡ version) refl
 
-  pub made-role : (made version role network).verdict ≡ Accepted → (made version role network).node.role ≡ role
+  pub made-role : (made version role network).verdict ≡ Ok tt → (made version role network).node.role ≡ role
   made-role = accepted (λ (m : MakeResult). m.node.role ≡ role) refl
 
   pub made-network :
-      (made version role network).verdict ≡ Accepted → octets_held (made version role network).node.network ≡ octets_held network
+      (made version role network).verdict ≡ Ok tt → octets_held (made version role network).node.network ≡ octets_held network
   made-network = accepted (λ (m : MakeResult). octets_held m.node.network ≡ octets_held network) (known-held network _ refl)

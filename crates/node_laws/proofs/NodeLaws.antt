@@ -1,11 +1,11 @@
 -- The laws for the layer above, one by one from the law files.
+use Rattle.std.specs.Prelude.{Err}
 use Prim.Native.Nat.{ℕ}
 use mathlib.Core.Path.{◌≡◌, refl}
 use mathlib.Core.Logic.{⊎_elim}
 use mathlib.Core.List.{[]}
 use borrow.Author.Tests.{eq-eqb}
 use Rattle.refusal.specs.declared.Refusal.{Refusal}
-use Rattle.refusal.specs.declared.Verdict.TheVariants.{Refused}
 use Rattle.link_key.specs.set.KeySet.{Apart}
 use Rattle.node_key_sets.specs.Frames.{change_verdict}
 use Rattle.link_key.specs.set.KeyLaws.{KeyLaws}
@@ -27,12 +27,12 @@ use Rattle.node_laws.proofs.FrameKeys.{covers-can, can-send, send-from, send-sta
 use Rattle.node_laws.proofs.FrameKeys.{verified-either, verified-switches, verified-stays, verified-says}
 use Rattle.node_laws.proofs.Untouched.{node-demand1}
 
-send-refused : (n : Node) (type : ℕ) (k : Refusal) → (send n type).verdict ≡ Refused k → after_send n type ≡ n
+send-refused : (n : Node) (type : ℕ) (k : Refusal) → (send n type).verdict ≡ Err k → after_send n type ≡ n
 unfolding perform
 send-refused n type k e = (node-demand1.calls (sending type) n k e).node
 
 report-refused :
-    (n : Node) (type identifier : ℕ) (k : Refusal) → change_verdict (verified n type identifier).change ≡ Refused k →
+    (n : Node) (type identifier : ℕ) (k : Refusal) → change_verdict (verified n type identifier).change ≡ Err k →
     (verified n type identifier).node ≡ n
 unfolding perform
 report-refused n type identifier k e = (node-demand1.calls (reporting type identifier) n k e).node

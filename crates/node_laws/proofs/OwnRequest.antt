@@ -1,4 +1,5 @@
 -- A valid node has a role, a network identifier and reports within their limits, and together they have at most 38 bytes.
+use Rattle.std.specs.Prelude.{Ok, Err}
 use Prim.Native.Nat.{ℕ, ◌+◌, ◌≤◌}
 use mathlib.Core.Path.{◌≡◌, refl, ap}
 use mathlib.Core.Bool.{Bool, true, false, cond, not}
@@ -14,7 +15,6 @@ use Rattle.refusal.specs.declared.Refusal.TheVariants.{Owed, Room}
 use Rattle.byte_io.specs.Write.{refuse, emit, answer}
 use Rattle.cbor.specs.Encode.{encode, encode_pairs, shortest}
 use Rattle.cbor.specs.HeadLaws.{HeadLaws}
-use Rattle.byte_io.specs.declared.WriteResult.TheVariants as written
 use Rattle.cbor.specs.Item.{Item, Pairs, unsigned, bytes, array, map_item, empty, count_pairs}
 use Rattle.cojp.specs.ErrorReports.{error_report_list, error_reports_valid, valid_error_report, valid_error_reports}
 use Rattle.cojp.specs.Lists.{error_reports_in, at_least_one, bytes_in, items_in, kept, no_list_parameter}
@@ -195,7 +195,7 @@ module _ (H : HeadLaws) (L : ListLaws) (n : Node) (v : Valid n) where
       (owed-first (owing n.version n.role (identifier_in n.network).disposition))
     where
       room : (b : Bool)
-          → written_number (cond b (written.Length (length payload)) (written.Refused Room)) ≡ in_order (0 ∷ refused_if (not b) 12 ∷ [])
+          → written_number (cond b (Ok (length payload)) (Err Room)) ≡ in_order (0 ∷ refused_if (not b) 12 ∷ [])
       room true = refl
       room false = refl
 

@@ -1,23 +1,20 @@
 -- Starts and polls change a node's join attempt alone, sending and verified reports its key sets alone. So a part of the node beside these
 -- two stays, but for what join answers and updates bring.
+use Rattle.std.specs.Prelude.{Result, Ok, Err}
+use Rattle.refusal.specs.declared.Refusal.{Refusal}
 use Prim.Native.Nat.{ℕ}
 use mathlib.Core.Path.{◌≡◌, refl}
 use mathlib.Core.Bool.{Bool, true, false, cond}
 use mathlib.Core.List.{List}
 use Rattle.refusal.specs.declared.Refusal.TheVariants as refusal
-use Rattle.refusal.specs.declared.Verdict.TheVariants as verdict
 use Rattle.byte_io.specs.Write.{answer}
-use Rattle.byte_io.specs.declared.WriteResult.{WriteResult}
-use Rattle.byte_io.specs.declared.WriteResult.TheVariants as written
 use Rattle.protocol_version.specs.declared.Version.{Version}
 use Rattle.node_attempt.specs.Attempt.{waiting_from}
 use Rattle.node_attempt.specs.Poll as attempt
 use Rattle.node_attempt.specs.declared.attempt.Attempt.{Attempt}
-use Rattle.node_attempt.specs.declared.poll.Due.TheVariants as due
 use Rattle.node_attempt.specs.declared.delivery.Delivery.{Delivery}
 use Rattle.node_key_sets.specs.Frames as sets
 use Rattle.node_key_sets.specs.Frames.{verified_in}
-use Rattle.node_key_sets.specs.declared.frames.Change.TheVariants as change
 use Rattle.node_key_sets.specs.declared.sets.KeySets.{KeySets}
 use Rattle.node_parameters.specs.Octets.{valid_octets, known_octets}
 use Rattle.node_parameters.specs.declared.octets.HeldOctets.{HeldOctets}
@@ -35,14 +32,14 @@ use Rattle.node_laws.specs.Calls.{NodeCall, starting, polling, delivering, askin
 pub made-cases :
     (P : MakeResult → Type 0) (version : Version) (role : ℕ) (network : HeldOctets) →
     (valid_role role ≡ true → valid_octets network ≡ true →
-    P (record { verdict = verdict.Accepted; node = fresh_node version role (known_octets network) })) →
+    P (record { verdict = Ok tt; node = fresh_node version role (known_octets network) })) →
     P unmade → P (made version role network)
 unfolding made
 made-cases P version role network fresh none = go (valid_role role) (valid_octets network) refl refl
   where
     go :
         (r o : Bool) → valid_role role ≡ r → valid_octets network ≡ o →
-        P (cond r (cond o (record { verdict = verdict.Accepted; node = fresh_node version role (known_octets network) }) unmade) unmade)
+        P (cond r (cond o (record { verdict = Ok tt; node = fresh_node version role (known_octets network) }) unmade) unmade)
     go true true e f = fresh e f
     go true false e f = none
     go false o e f = none
@@ -54,15 +51,15 @@ module _ {X : Type 0} (part : Node → X) (n : Node) where
     unfolding start
     start-part time timeout d = go (answer (start_plan n time timeout) d)
       where
-        go : (w : WriteResult) → part (started_by w n (started_from n time timeout)).node ≡ part n
-        go (written.Refused k) = refl
-        go (written.Length l) = stays (waiting_from time timeout)
+        go : (w : Result ℕ Refusal) → part (started_by w n (started_from n time timeout)).node ≡ part n
+        go (Err k) = refl
+        go (Ok l) = stays (waiting_from time timeout)
 
     pub poll-part : (time : ℕ) → part (poll n time).node ≡ part n
     unfolding poll
     poll-part time = go (valid n)
       where
-        go : (v : Bool) → part (cond v (polled_by n (attempt.poll n.attempt time)) (polled (due.Refused refusal.Range) n)).node ≡ part n
+        go : (v : Bool) → part (cond v (polled_by n (attempt.poll n.attempt time)) (polled (Err refusal.Range) n)).node ≡ part n
         go true = stays (attempt.poll n.attempt time).attempt
         go false = refl
 
@@ -82,7 +79,7 @@ module _ {X : Type 0} (part : Node → X) (n : Node) where
       where
         go :
             (v : Bool) →
-            part (cond v (reported_by n (verified_in n.sets type identifier)) (reported (change.Refused refusal.Range) n)).node ≡ part n
+            part (cond v (reported_by n (verified_in n.sets type identifier)) (reported (Err refusal.Range) n)).node ≡ part n
         go true = stays (verified_in n.sets type identifier).sets
         go false = refl
 

@@ -1,9 +1,9 @@
 -- Each call's definition leaves the reports but an accepted delivery's, which sets them; so after a list of calls they are the last one's.
+use Rattle.std.specs.Prelude.{Ok, Err}
 use Prim.Native.Nat.{ℕ}
 use mathlib.Core.Path.{◌≡◌, refl, sym, ◌∙◌, ap}
 use mathlib.Core.List.{List, [], ◌∷◌, ◌++◌}
-use Rattle.refusal.specs.declared.Verdict.{Verdict}
-use Rattle.refusal.specs.declared.Verdict.TheVariants as verdict
+use Rattle.refusal.specs.Verdict.{Verdict}
 use Rattle.cojp.specs.ErrorReports.{no_error_reports}
 use Rattle.cojp.specs.Reported.{error_reports_of}
 use Rattle.cojp.specs.declared.error_report.ErrorReports.{ErrorReports}
@@ -29,7 +29,7 @@ made_none : (version : Version) (role : ℕ) (network : HeldOctets) → (made ve
 made_none version role network = made-cases (λ (m : MakeResult). m.node.errors ≡ no_error_reports) version role network (λ _ _. refl) refl
 
 brings :
-    (delivery : Delivery) (n : Node) (time : ℕ) (payload : List ℕ) → (deliver delivery n time payload).verdict ≡ verdict.Accepted →
+    (delivery : Delivery) (n : Node) (time : ℕ) (payload : List ℕ) → (deliver delivery n time payload).verdict ≡ Ok tt →
     (deliver delivery n time payload).node.errors ≡ error_reports_of (configuration_in n payload)
 unfolding configured
 brings delivery n time payload e = ap (λ (m : DeliveryResult). m.node.errors) (accepted-is delivery n time payload e)
@@ -37,8 +37,8 @@ brings delivery n time payload e = ap (λ (m : DeliveryResult). m.node.errors) (
 by-delivery :
     (delivery : Delivery) (n : Node) (time : ℕ) (payload : List ℕ) (v : Verdict) → (deliver delivery n time payload).verdict ≡ v →
     (deliver delivery n time payload).node.errors ≡ last_of n.errors (reports_where v (error_reports_of (configuration_in n payload)))
-by-delivery delivery n time payload verdict.Accepted e = brings delivery n time payload e
-by-delivery delivery n time payload (verdict.Refused k) e = ap (λ (m : Node). m.errors) (deliver-leaves n delivery time payload k e).0
+by-delivery delivery n time payload (Ok tt) e = brings delivery n time payload e
+by-delivery delivery n time payload (Err k) e = ap (λ (m : Node). m.errors) (deliver-leaves n delivery time payload k e).0
 
 abbrev faults_in : Node → ErrorReports
 faults_in n = n.errors

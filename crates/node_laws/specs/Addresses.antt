@@ -1,7 +1,6 @@
 -- FFFE and FFFF at a node: whatever calls a valid node is handed, in any order, it comes to hold neither.
-use Rattle.std.specs.Prelude.{ℕ, ◌≡◌, true, List, [], ◌∷◌, replicate}
+use Rattle.std.specs.Prelude.{ℕ, ◌≡◌, true, List, [], ◌∷◌, replicate, Ok}
 use Rattle.refusal.specs.Verdict.{verdict_number}
-use Rattle.refusal.specs.declared.Verdict.TheVariants.{Accepted}
 use Rattle.short_address.specs.Address.{Reserved}
 use Rattle.cojp.specs.Octets.{octets_of}
 use Rattle.cojp.specs.declared.disposition.Disposition.TheVariants.{Discarded}
@@ -54,7 +53,7 @@ pub record AddressesExample : Type 0 where
   pub taken : joined.address.held ≡ true
   pub bytes : joined.address.value.bytes ≡ 0xFF ∷ 0xFD ∷ []
   -- accepted and reported as discarded; the address stays, with its time of receipt
-  pub accepted : (deliver Update joined 2000 leased).verdict ≡ Accepted
+  pub accepted : (deliver Update joined 2000 leased).verdict ≡ Ok tt
   pub discarded : (deliver Update joined 2000 leased).dispositions.address ≡ Discarded
   pub kept : (after_calls updates joined).address ≡ joined.address
   pub received : (after_calls updates joined).address.received ≡ 1000

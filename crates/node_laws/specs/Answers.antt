@@ -1,11 +1,11 @@
 -- What the answers of a node's calls say in document 01's numbers and values: each number in 01's order, each value exactly when 01
 -- gives it.
-use Rattle.std.specs.Prelude.{ℕ, ◌-◌, ◌≤◌, ◌≡◌, Bool, true, false, not, ◌&&◌, List, [], ◌∷◌, leb, ltb, eqb, length}
+use Rattle.refusal.specs.declared.Refusal.{Refusal}
+use Rattle.std.specs.Prelude.{ℕ, ◌-◌, ◌≤◌, ◌≡◌, Bool, true, false, not, ◌&&◌, List, [], ◌∷◌, leb, ltb, eqb, length, Result, Ok, Err}
 use Rattle.std.proofs.Math.Option.{Option, none, some}
 use Rattle.refusal.specs.Refusal.{number_of}
 use Rattle.refusal.specs.Verdict.{verdict_number, is_accepted}
 use Rattle.refusal.specs.Order.{refused_if, in_order}
-use Rattle.refusal.specs.declared.Verdict.TheVariants.{Accepted}
 use Rattle.link_key.specs.usage.Usage.{known_type}
 use Rattle.link_key.specs.Key.{covers}
 use Rattle.link_key.specs.declared.Key.{Key}
@@ -14,8 +14,6 @@ use Rattle.link_key_counters.specs.Counters.{Slot, first_serving}
 use Rattle.byte_io.specs.Write.{answer}
 use Rattle.cbor.specs.Encode.{encode}
 use Rattle.cbor.specs.Item.{map_item}
-use Rattle.byte_io.specs.declared.WriteResult.{WriteResult}
-use Rattle.byte_io.specs.declared.WriteResult.TheVariants as written
 use Rattle.cojp.specs.Reading.{if_taken}
 use Rattle.protocol_version.specs.Version.{by_version}
 use Rattle.cojp.specs.Request.{owing}
@@ -77,9 +75,9 @@ is_uncovered type none = true
 is_uncovered type (some k) = not (covers k type)
 
 -- the number in a writer's answer
-abbrev pub written_number : WriteResult → ℕ
-written_number (written.Refused k) = number_of k
-written_number (written.Length l) = 0
+abbrev pub written_number : Result ℕ Refusal → ℕ
+written_number (Err k) = number_of k
+written_number (Ok l) = 0
 
 pub record AnswersSay : Type 0 where
   -- a node that is not valid answers RANGE (13) to every call
@@ -149,19 +147,19 @@ pub record AnswersSay : Type 0 where
   -- ---- the values
   -- a start wrote what the request's writer answers
   pub start-length :
-      (n : Node) (time timeout : ℕ) (d : List ℕ) → (start n time timeout d).verdict ≡ Accepted →
-      answer (request_plan n.version (request_of n)) d ≡ written.Length (start n time timeout d).length
+      (n : Node) (time timeout : ℕ) (d : List ℕ) → (start n time timeout d).verdict ≡ Ok tt →
+      answer (request_plan n.version (request_of n)) d ≡ Ok (start n time timeout d).length
   -- "not yet" before the timeout is reached; then "send again" with a counter under 4, "gave up" at 4
   pub not_yet_lem : (n : Node) (time : ℕ) → not_yet (poll n time).due ≡ (is_polled n time && not (reached n time))
   pub sends-again : (n : Node) (time : ℕ) → sends_again (poll n time).due ≡ (is_due n time && ltb n.attempt.count 4)
   pub gives_up_lem : (n : Node) (time : ℕ) → gives_up (poll n time).due ≡ (is_due n time && eqb n.attempt.count 4)
   -- the report of an accepted configuration, in the published form without a set that cannot be placed
   pub delivery-reports :
-      (delivery : Delivery) (n : Node) (time : ℕ) (payload : List ℕ) → (deliver delivery n time payload).verdict ≡ Accepted →
+      (delivery : Delivery) (n : Node) (time : ℕ) (payload : List ℕ) → (deliver delivery n time payload).verdict ≡ Ok tt →
       (deliver delivery n time payload).dispositions ≡ dispositions_of (is_border n) (configuration_in n payload)
   -- in that form a set that clashes is discarded
   pub clash-discarded :
-      (delivery : Delivery) (n : Node) (time : ℕ) (payload : List ℕ) → (deliver delivery n time payload).verdict ≡ Accepted →
+      (delivery : Delivery) (n : Node) (time : ℕ) (payload : List ℕ) → (deliver delivery n time payload).verdict ≡ Ok tt →
       n.version ≡ Published → clashes n (read_for n payload).configuration.keys ≡ true →
       (deliver delivery n time payload).dispositions.keys ≡ Discarded
   -- yes
@@ -169,9 +167,9 @@ pub record AnswersSay : Type 0 where
       → holds_now (holds n time) ≡ (valid n && not (early n time) && holds_at n.version n.address time)
   -- the key, and sending's counter: the first active one that covers the type and is not used up; the active or else pending one with
   -- the identifier
-  pub send-counts : (n : Node) (type : ℕ) → (send n type).verdict ≡ Accepted → Counts n type
+  pub send-counts : (n : Node) (type : ℕ) → (send n type).verdict ≡ Ok tt → Counts n type
   pub receive-key :
-      (n : Node) (type identifier : ℕ) → (receive n type identifier).verdict ≡ Accepted →
+      (n : Node) (type identifier : ℕ) → (receive n type identifier).verdict ≡ Ok tt →
       held_key n.sets identifier ≡ some (receive n type identifier).key
   -- switched where the key was pending, kept where it was active
   pub has-switched :

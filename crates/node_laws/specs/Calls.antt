@@ -1,8 +1,7 @@
 -- Demand 1 for the node: a refused call leaves the node and the lent bytes as they were, and its object is the empty one.
-use Rattle.std.specs.Prelude.{ℕ, ◌≡◌, List, []}
+use Rattle.std.specs.Prelude.{ℕ, ◌≡◌, List, [], Result, Ok, Err}
 use Rattle.refusal.specs.declared.Refusal.{Refusal}
-use Rattle.refusal.specs.declared.Verdict.{Verdict}
-use Rattle.refusal.specs.declared.Verdict.TheVariants.{Refused}
+use Rattle.refusal.specs.Verdict.{Verdict}
 use Rattle.link_key.specs.Key.{no_key}
 use Rattle.link_key.specs.declared.Key.{Key}
 use Rattle.protocol_version.specs.declared.Version.{Version}
@@ -45,30 +44,30 @@ pub data NodeCall : Type 0 where
 pub data Object : Type 0 where
   nothing : Object
   written : ℕ → Object
-  step : Due → Object
+  step : Result Due Refusal → Object
   reports : Dispositions → Object
-  state : LeaseStatus → Object
+  state : Result LeaseStatus Refusal → Object
   key : Key → Object
   -- with its counter
   counted : Key → ℕ → Object
-  effect : Change → Object
+  effect : Result Change Refusal → Object
 
 -- an answer that is a refusal is no object
-abbrev pub due_object : Due → Object
-due_object (due.Refused k) = nothing
-due_object due.NotYet = step due.NotYet
-due_object due.SendAgain = step due.SendAgain
-due_object due.GaveUp = step due.GaveUp
+abbrev pub due_object : Result Due Refusal → Object
+due_object (Err k) = nothing
+due_object (Ok due.NotYet) = step (Ok due.NotYet)
+due_object (Ok due.SendAgain) = step (Ok due.SendAgain)
+due_object (Ok due.GaveUp) = step (Ok due.GaveUp)
 
-abbrev pub holding_object : LeaseStatus → Object
-holding_object (holding.Refused k) = nothing
-holding_object holding.Valid = state holding.Valid
-holding_object holding.Expired = state holding.Expired
+abbrev pub holding_object : Result LeaseStatus Refusal → Object
+holding_object (Err k) = nothing
+holding_object (Ok holding.Valid) = state (Ok holding.Valid)
+holding_object (Ok holding.Expired) = state (Ok holding.Expired)
 
-abbrev pub change_object : Change → Object
-change_object (change.Refused k) = nothing
-change_object change.Switched = effect change.Switched
-change_object change.Kept = effect change.Kept
+abbrev pub change_object : Result Change Refusal → Object
+change_object (Err k) = nothing
+change_object (Ok change.Switched) = effect (Ok change.Switched)
+change_object (Ok change.Kept) = effect (Ok change.Kept)
 
 -- the empty object of each call
 abbrev pub empty_object : NodeCall → Object
@@ -122,8 +121,8 @@ pub record Untouched (c : NodeCall) (n : Node) (p : Performed) : Type 0 where
   pub object : p.object ≡ empty_object c
 
 pub record Demand1 : Type 0 where
-  pub calls : (c : NodeCall) (n : Node) (k : Refusal) → (perform c n).verdict ≡ Refused k → Untouched c n (perform c n)
+  pub calls : (c : NodeCall) (n : Node) (k : Refusal) → (perform c n).verdict ≡ Err k → Untouched c n (perform c n)
   -- a node that is not made is the empty one
   pub made-empty :
-      (version : Version) (role : ℕ) (network : HeldOctets) (k : Refusal) → (made version role network).verdict ≡ Refused k →
+      (version : Version) (role : ℕ) (network : HeldOctets) (k : Refusal) → (made version role network).verdict ≡ Err k →
       (made version role network).node ≡ empty_node

@@ -1,9 +1,8 @@
 -- What the layer above may rely on of a node, whatever the definitions of its calls are; and when a join attempt gives up.
-use Rattle.std.specs.Prelude.{ℕ, zero, suc, ◌+◌, ◌*◌, ◌≤◌, ◌≡◌, true, ◌⊎◌}
+use Rattle.std.specs.Prelude.{ℕ, zero, suc, ◌+◌, ◌*◌, ◌≤◌, ◌≡◌, true, ◌⊎◌, Result, Ok, Err}
 use Rattle.std.proofs.Math.Option.{some}
 use mathlib.Core.List.{List, [], ◌∷◌, Memᴰ}
 use Rattle.refusal.specs.declared.Refusal.{Refusal}
-use Rattle.refusal.specs.declared.Verdict.TheVariants.{Accepted, Refused}
 use Rattle.link_key.specs.Key.{covers, same_key}
 use Rattle.link_key.specs.set.KeySet.{keys_of, Apart, Covers}
 use Rattle.link_key.specs.declared.Key.{Key}
@@ -68,7 +67,7 @@ pub record CanSend (n : Node) (type : ℕ) : Type 0 where
 
 -- asked to send the type, the node answers with an active key that covers it
 pub record Sends (n : Node) (type : ℕ) : Type 0 where
-  pub accepted : (send n type).verdict ≡ Accepted
+  pub accepted : (send n type).verdict ≡ Ok tt
   pub member : Memᴰ (send n type).key (active_of n)
   pub covering : covers (send n type).key type ≡ true
 
@@ -92,7 +91,7 @@ set_in n payload = (read_for n payload).configuration.keys.value
 
 -- the node accepts the payload and takes the key set in it, which has the keys ks
 pub record Takes (delivery : Delivery) (n : Node) (time : ℕ) (payload : List ℕ) (ks : List Key) : Type 0 where
-  pub accepted : (deliver delivery n time payload).verdict ≡ Accepted
+  pub accepted : (deliver delivery n time payload).verdict ≡ Ok tt
   pub taken : (deliver delivery n time payload).dispositions.keys ≡ Taken
   pub set : keys_of (set_in n payload) ≡ ks
 
@@ -119,33 +118,33 @@ pub record NodeLaws : Type 0 where
   pub stays-valid : (c : NodeCall) (n : Node) → Valid n → Valid (perform c n).node
   pub role-stays : (c : NodeCall) (n : Node) → (perform c n).node.role ≡ n.role
   pub version-stays : (c : NodeCall) (n : Node) → (perform c n).node.version ≡ n.version
-  pub refused-stays : (c : NodeCall) (n : Node) (k : Refusal) → (perform c n).verdict ≡ Refused k → (perform c n).node ≡ n
+  pub refused-stays : (c : NodeCall) (n : Node) (k : Refusal) → (perform c n).verdict ≡ Err k → (perform c n).node ≡ n
   -- a node that is made is valid, and so is the empty one beside a refusal; it has the form, the role and the network identifier that were
   -- asked for
   pub made-valid : (version : Version) (role : ℕ) (network : HeldOctets) → Valid (made version role network).node
   pub made-version :
-      (version : Version) (role : ℕ) (network : HeldOctets) → (made version role network).verdict ≡ Accepted →
+      (version : Version) (role : ℕ) (network : HeldOctets) → (made version role network).verdict ≡ Ok tt →
       (made version role network).node.version ≡ version
   pub made-role :
-      (version : Version) (role : ℕ) (network : HeldOctets) → (made version role network).verdict ≡ Accepted →
+      (version : Version) (role : ℕ) (network : HeldOctets) → (made version role network).verdict ≡ Ok tt →
       (made version role network).node.role ≡ role
   pub made-network :
-      (version : Version) (role : ℕ) (network : HeldOctets) → (made version role network).verdict ≡ Accepted →
+      (version : Version) (role : ℕ) (network : HeldOctets) → (made version role network).verdict ≡ Ok tt →
       octets_held (made version role network).node.network ≡ octets_held network
   -- a node whose active set covers a type, with no covering key used up, can send it; a node that can sends it; a key that is sent is an
   -- active one and covers the type; sending leaves the keys
   pub covers-can : (n : Node) (type : ℕ) → Covers (active_of n) type → Unspent (active_of n) type n → CanSend n type
   pub can-send : (n : Node) (type : ℕ) → Valid n → CanSend n type → Sends n type
-  pub send-from : (n : Node) (type : ℕ) → (send n type).verdict ≡ Accepted → Sends n type
+  pub send-from : (n : Node) (type : ℕ) → (send n type).verdict ≡ Ok tt → Sends n type
   pub send-stays : (n : Node) (type : ℕ) → KeysStay n (after_send n type)
-  pub send-refused : (n : Node) (type : ℕ) (k : Refusal) → (send n type).verdict ≡ Refused k → after_send n type ≡ n
+  pub send-refused : (n : Node) (type : ℕ) (k : Refusal) → (send n type).verdict ≡ Err k → after_send n type ≡ n
   -- a pending key that covers the type is found by its identifier, where no active key has it
   pub receive-pending :
       (n : Node) (type : ℕ) (k : Key) → Valid n → covers k type ≡ true → Without k.identifier (active_of n) →
       Memᴰ k (pending_of n) → receive n type k.identifier ≡ with_key k
   -- a key that receiving answers is active or pending, has the identifier and covers the type
   pub receive-from :
-      (n : Node) (type identifier : ℕ) → (receive n type identifier).verdict ≡ Accepted →
+      (n : Node) (type identifier : ℕ) → (receive n type identifier).verdict ≡ Ok tt →
       (Memᴰ (receive n type identifier).key (active_of n) ⊎ Memᴰ (receive n type identifier).key (pending_of n))
       × ((receive n type identifier).key.identifier ≡ identifier)
       × (covers (receive n type identifier).key type ≡ true)
@@ -158,11 +157,11 @@ pub record NodeLaws : Type 0 where
   pub verified-stays : (n : Node) (type identifier : ℕ) → Without identifier (pending_of n) → KeysStay n (verified n type identifier).node
   -- a refused report leaves the node
   pub report-refused :
-      (n : Node) (type identifier : ℕ) (k : Refusal) → change_verdict (verified n type identifier).change ≡ Refused k →
+      (n : Node) (type identifier : ℕ) (k : Refusal) → change_verdict (verified n type identifier).change ≡ Err k →
       (verified n type identifier).node ≡ n
   -- the answer says which of the two
   pub verified-says :
-      (n : Node) (type identifier : ℕ) → (verified n type identifier).change ≡ change.Switched →
+      (n : Node) (type identifier : ℕ) → (verified n type identifier).change ≡ Ok change.Switched →
       Switched n (verified n type identifier).node
   -- a key equals itself
   pub same-key-self : (k : Key) → same_key k k ≡ true
@@ -170,7 +169,7 @@ pub record NodeLaws : Type 0 where
   pub start-stays : (n : Node) (time timeout : ℕ) (d : List ℕ) → KeysStay n (start n time timeout d).node
   pub poll-stays : (n : Node) (time : ℕ) → KeysStay n (poll n time).node
   pub deliver-refused :
-      (delivery : Delivery) (n : Node) (time : ℕ) (payload : List ℕ) (k : Refusal) → (deliver delivery n time payload).verdict ≡ Refused k →
+      (delivery : Delivery) (n : Node) (time : ℕ) (payload : List ℕ) (k : Refusal) → (deliver delivery n time payload).verdict ≡ Err k →
       (deliver delivery n time payload).node ≡ n
   -- one that takes no key set leaves both sets, with their counters: what was pending stays so
   pub untaken-stays :
@@ -192,14 +191,14 @@ abbrev pub after_due : ℕ → Node → Node
 after_due zero n = n
 after_due (suc polls) n = after_due polls (poll n (due_at n)).node
 
-abbrev pub answers_due : ℕ → Node → List Due
+abbrev pub answers_due : ℕ → Node → List (Result Due Refusal)
 answers_due zero n = []
 answers_due (suc polls) n = (poll n (due_at n)).due ∷ answers_due polls (poll n (due_at n)).node
 
 -- the node has sent its request with first timeout t at that time: polled exactly when due, it sends four times more, and gives up 31t
 -- after, which is 310,000 to 465,000 ms
 pub record GaveUpAfter (n : Node) (time timeout : ℕ) : Type 0 where
-  pub answers : answers_due 5 n ≡ SendAgain ∷ SendAgain ∷ SendAgain ∷ SendAgain ∷ GaveUp ∷ []
+  pub answers : answers_due 5 n ≡ Ok SendAgain ∷ Ok SendAgain ∷ Ok SendAgain ∷ Ok SendAgain ∷ Ok GaveUp ∷ []
   pub end : (after_due 5 n).attempt.phase ≡ phase.GaveUp
   pub at : clock_of (after_due 5 n) ≡ time + 31 * timeout
   pub earliest : time + 310000 ≤ clock_of (after_due 5 n)
@@ -207,5 +206,5 @@ pub record GaveUpAfter (n : Node) (time timeout : ℕ) : Type 0 where
 
 abbrev pub GivesUp : Type 0
 GivesUp =
-    (n : Node) (time timeout : ℕ) (d : List ℕ) → (start n time timeout d).verdict ≡ Accepted →
+    (n : Node) (time timeout : ℕ) (d : List ℕ) → (start n time timeout d).verdict ≡ Ok tt →
     GaveUpAfter (start n time timeout d).node time timeout

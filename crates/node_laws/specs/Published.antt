@@ -1,8 +1,7 @@
 -- An update to a node of the published form (document 02, request 11): a key set that clashes is bad, and all else in the payload is
 -- applied; and how long the address in it holds, by a lease in hours.
-use Rattle.std.specs.Prelude.{ℕ, ◌+◌, ◌≡◌, List, [], ◌∷◌, ◌++◌, replicate}
+use Rattle.std.specs.Prelude.{ℕ, ◌+◌, ◌≡◌, List, [], ◌∷◌, ◌++◌, replicate, Ok}
 use Rattle.std.proofs.Math.Option.{some}
-use Rattle.refusal.specs.declared.Verdict.TheVariants.{Accepted}
 use Rattle.link_key.specs.Key.{key_of}
 use Rattle.cojp.specs.ErrorReports.{error_report_of, error_report_list}
 use Rattle.cojp.specs.declared.disposition.Disposition.TheVariants.{Discarded}
@@ -50,7 +49,7 @@ pub record TwoKeys (n : Node) : Type 0 where
 pub record PublishedExample : Type 0 where
   pub before : TwoKeys rekeyed
   -- accepted; the key set is not taken, both sets stay, and this alone is reported, as malformed
-  pub accepted : (updated_with an_hour).verdict ≡ Accepted
+  pub accepted : (updated_with an_hour).verdict ≡ Ok tt
   pub keys : (updated_with an_hour).dispositions.keys ≡ Discarded
   pub after : TwoKeys (updated_with an_hour).node
   pub reported : error_report_list (updated_with an_hour).node.errors ≡ error_report_of 1 2 ∷ []
@@ -59,6 +58,6 @@ pub record PublishedExample : Type 0 where
   pub blacklist : list_held (updated_with an_hour).node.blacklist ≡ some (1, eui)
   pub rate : rate_held (updated_with an_hour).node.rate ≡ some 500
   -- an hour is 3,600,000 ms, from the receipt; the longest lease holds at the last time there is
-  pub lasts : holds (updated_with an_hour).node (3000 + 3599999) ≡ Valid
-  pub ends : holds (updated_with an_hour).node (3000 + 3600000) ≡ Expired
-  pub always : holds (updated_with longest).node 18446744073709551615 ≡ Valid
+  pub lasts : holds (updated_with an_hour).node (3000 + 3599999) ≡ Ok Valid
+  pub ends : holds (updated_with an_hour).node (3000 + 3600000) ≡ Ok Expired
+  pub always : holds (updated_with longest).node 18446744073709551615 ≡ Ok Valid

@@ -1,8 +1,7 @@
 -- What a node reports (document 02, request 11): the bad parameters of the last join answer or update that it accepted, in payload order, a
 -- key set that clashes among them. Its next join request lists exactly these.
-use Rattle.std.specs.Prelude.{ℕ, ◌≡◌, List, [], ◌∷◌, ◌++◌, replicate, take}
-use Rattle.refusal.specs.declared.Verdict.{Verdict}
-use Rattle.refusal.specs.declared.Verdict.TheVariants.{Accepted, Refused}
+use Rattle.std.specs.Prelude.{ℕ, ◌≡◌, List, [], ◌∷◌, ◌++◌, replicate, take, Ok, Err}
+use Rattle.refusal.specs.Verdict.{Verdict}
 use Rattle.cojp.specs.ErrorReports.{error_report_of, no_error_reports, error_report_list}
 use Rattle.cojp.specs.Reported.{error_reports_of}
 use Rattle.cojp.specs.declared.error_report.ErrorReports.{ErrorReports}
@@ -23,8 +22,8 @@ use Rattle.node_laws.specs.Laws.{configuration_in}
 -- ---- the reports of a list of calls
 -- of one payload: its own where it was accepted, none else
 abbrev pub reports_where : Verdict → ErrorReports → List ErrorReports
-reports_where Accepted f = f ∷ []
-reports_where (Refused k) f = []
+reports_where (Ok tt) f = f ∷ []
+reports_where (Err k) f = []
 
 -- only join answers and updates bring any
 abbrev pub reports_by : NodeCall → Node → List ErrorReports
@@ -52,7 +51,7 @@ pub record ReportsFollow : Type 0 where
   pub made_none : (version : Version) (role : ℕ) (network : HeldOctets) → (made version role network).node.errors ≡ no_error_reports
   -- an accepted join answer or update leaves its own reports, which may be none; every other call, and a refused one, leaves those before
   pub brings :
-      (delivery : Delivery) (n : Node) (time : ℕ) (payload : List ℕ) → (deliver delivery n time payload).verdict ≡ Accepted →
+      (delivery : Delivery) (n : Node) (time : ℕ) (payload : List ℕ) → (deliver delivery n time payload).verdict ≡ Ok tt →
       (deliver delivery n time payload).node.errors ≡ error_reports_of (configuration_in n payload)
   pub leaves : (c : NodeCall) (n : Node) → reports_by c n ≡ [] → (perform c n).node.errors ≡ n.errors
   -- whatever calls come: the last accepted one's
@@ -87,7 +86,7 @@ abbrev pub request : ℕ → Node → List ℕ
 request size n = take size (start_after n 5000 10000 (replicate 32 0))
 
 pub record ReportsExample : Type 0 where
-  pub accepted : (deliver Update member 2000 all_bad).verdict ≡ Accepted
+  pub accepted : (deliver Update member 2000 all_bad).verdict ≡ Ok tt
   -- JRC address, key set, short address: malformed, in payload order, and the refused update changes nothing
   pub reported : error_report_list reporting_node.errors ≡ error_report_of 1 4 ∷ error_report_of 1 2 ∷ error_report_of 1 3 ∷ []
   pub written :

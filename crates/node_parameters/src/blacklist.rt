@@ -15,9 +15,10 @@ pub struct HeldList {
 pub fn absent_list() -> HeldList
     ensures { result ≡ absent_list }
 {
-    let none = no_list(Disposition::Absent);
-    let value = none.value;
-    HeldList { held: false, value }
+    HeldList {
+        held: false,
+        value: no_list(Disposition::Absent).value,
+    }
 }
 
 impl HeldList {
@@ -25,21 +26,19 @@ impl HeldList {
     pub fn valid(self) -> bool
         ensures { result ≡ valid_list self }
     {
-        if self.held {
-            return is_blacklist(self.value);
-        }
-        true
+        !self.held || is_blacklist(self.value)
     }
 
     // The blacklist after a configuration: the one taken, else this one.
     pub fn after(self, parameter: ListParameter) -> HeldList
         ensures { result ≡ list_after parameter self }
     {
-        let report = parameter.disposition;
-        if is_taken(report) {
-            let value = parameter.value;
-            return HeldList { held: true, value };
+        if !is_taken(parameter.disposition) {
+            return self;
         }
-        self
+        HeldList {
+            held: true,
+            value: parameter.value,
+        }
     }
 }

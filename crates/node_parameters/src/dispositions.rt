@@ -47,38 +47,22 @@ fn discarded(report: Disposition) -> Disposition
 fn border_only(border: bool, report: Disposition) -> Disposition
     ensures { result ≡ border_only border report }
 {
-    if border {
-        return report;
-    }
-    discarded(report)
+    if border { report } else { discarded(report) }
 }
 
 // What a border node or an ordinary one makes of each parameter.
+#[tactic(auto, unfolding(crate::specs::Dispositions::dispositions_of))]
 pub fn dispositions_of(border: bool, c: Configuration) -> Dispositions
     ensures { result ≡ dispositions_of border c }
 {
-    let keys = c.keys;
-    let keys_report = keys.disposition;
-    let address = c.address;
-    let address_report = address.disposition;
-    let jrc = c.jrc;
-    let jrc_report = jrc.disposition;
-    let network = c.network;
-    let network_report = network.disposition;
-    let prefix = c.prefix;
-    let prefix_report = prefix.disposition;
-    let blacklist = c.blacklist;
-    let blacklist_report = blacklist.disposition;
-    let rate = c.rate;
-    let rate_report = rate.disposition;
     Dispositions {
-        keys: keys_report,
-        address: address_report,
-        jrc: jrc_report,
-        network: border_only(border, network_report),
-        prefix: border_only(border, prefix_report),
-        blacklist: blacklist_report,
-        rate: rate_report,
+        keys: c.keys.disposition,
+        address: c.address.disposition,
+        jrc: c.jrc.disposition,
+        network: border_only(border, c.network.disposition),
+        prefix: border_only(border, c.prefix.disposition),
+        blacklist: c.blacklist.disposition,
+        rate: c.rate.disposition,
         unknown: c.unknown,
     }
 }

@@ -10,37 +10,29 @@ use protocol_version::Version;
 fn is_reportable(label: u8) -> bool
     ensures { result ≡ is_reportable label }
 {
-    match label {
-        2 => true,
-        3 => true,
-        4 => true,
-        6 => true,
-        7 => true,
-        _ => false,
-    }
+    matches!(label, 2 | 3 | 4 | 6 | 7)
 }
 
-fn valid_error_report(fault: ErrorReport) -> bool
-    ensures { result ≡ valid_error_report fault }
+fn valid_error_report(report: ErrorReport) -> bool
+    ensures { result ≡ valid_error_report report }
 {
-    fault.code <= 1 && is_reportable(fault.label)
+    report.code <= 1 && is_reportable(report.label)
+}
+
+// The reports, as many as there are.
+fn as_slice(reports: &ErrorReports) -> &[ErrorReport]
+    ensures { result.now ≡ error_report_list reports.now }
+{
+    &reports.reports[..reports.len()]
 }
 
 // Whether each of them is one.
 fn each_valid(reports: ErrorReports) -> bool
     ensures { result ≡ all_of valid_error_report (error_report_list reports) }
 {
-    let n = reports.len();
-    let faults = reports.reports;
-    let mut i: usize = 0;
-    while i < n {
-        let f = faults[i];
-        if !valid_error_report(f) {
-            return false;
-        }
-        i += 1;
-    }
-    true
+    as_slice(&reports)
+        .iter()
+        .all(|report| valid_error_report(*report))
 }
 
 fn valid_error_reports(reports: ErrorReports) -> bool

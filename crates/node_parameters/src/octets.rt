@@ -15,9 +15,10 @@ pub struct HeldOctets {
 pub fn absent_octets() -> HeldOctets
     ensures { result ≡ absent_octets }
 {
-    let none = no_octets(Disposition::Absent);
-    let value = none.value;
-    HeldOctets { held: false, value }
+    HeldOctets {
+        held: false,
+        value: no_octets(Disposition::Absent).value,
+    }
 }
 
 impl HeldOctets {
@@ -25,56 +26,46 @@ impl HeldOctets {
     pub fn known(self) -> HeldOctets
         ensures { result ≡ known_octets self }
     {
-        if self.held {
-            return self;
-        }
-        absent_octets()
+        if self.held { self } else { absent_octets() }
     }
 
     // Whether it may be a network identifier or a prefix.
     pub fn valid(self) -> bool
         ensures { result ≡ valid_octets self }
     {
-        if self.held {
-            let value = self.value;
-            return value.len <= 16;
-        }
-        true
+        !self.held || self.value.len <= 16
     }
 
     // Whether it may be a JRC address.
     pub fn valid_jrc(self) -> bool
         ensures { result ≡ valid_jrc self }
     {
-        if self.held {
-            let value = self.value;
-            return value.len == 16;
-        }
-        true
+        !self.held || self.value.len == 16
     }
 
     // It as a join request's network identifier.
     pub fn parameter(self) -> OctetsParameter
         ensures { result ≡ identifier_in self }
     {
-        if self.held {
-            let value = self.value;
-            return OctetsParameter {
-                disposition: Disposition::Taken,
-                value,
-            };
+        if !self.held {
+            return no_octets(Disposition::Absent);
         }
-        no_octets(Disposition::Absent)
+        OctetsParameter {
+            disposition: Disposition::Taken,
+            value: self.value,
+        }
     }
 
     // The byte string after a configuration, by the node's report of the parameter: the one taken, else this one.
     pub fn after(self, report: Disposition, parameter: OctetsParameter) -> HeldOctets
         ensures { result ≡ octets_after report parameter.value self }
     {
-        if is_taken(report) {
-            let value = parameter.value;
-            return HeldOctets { held: true, value };
+        if !is_taken(report) {
+            return self;
         }
-        self
+        HeldOctets {
+            held: true,
+            value: parameter.value,
+        }
     }
 }

@@ -25,13 +25,12 @@ impl HeldRate {
     pub fn after(self, parameter: RateParameter) -> HeldRate
         ensures { result ≡ rate_after parameter self }
     {
-        let report = parameter.disposition;
-        if is_taken(report) {
-            return HeldRate {
-                held: true,
-                value: parameter.value,
-            };
+        if !is_taken(parameter.disposition) {
+            return self;
         }
-        self
+        HeldRate {
+            held: true,
+            value: parameter.value,
+        }
     }
 }

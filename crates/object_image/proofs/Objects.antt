@@ -1,9 +1,8 @@
 -- What the code reads and writes at fixed places is what the fields get and put, one after the other.
 use Prim.Native.Nat.{ℕ, suc, ◌+◌}
 use mathlib.Core.Path.{◌≡◌, ap, sym, ◌∙◌}
-use mathlib.Core.Bool.{Bool, true, false, ◌&&◌, and_assoc}
+use mathlib.Core.Bool.{Bool, true, false, ◌&&◌}
 use mathlib.Core.List.{List, [], ◌∷◌, ◌++◌}
-use borrow.Author.Tests.{eqb-true}
 use lib.Dec.{eqb}
 use lib.ListN.{length, take, drop, get_or}
 use lib.Seq.{drop-drop}
@@ -36,12 +35,6 @@ module _ {A : Type 0} (kind : ℕ) (p : Part A) (s : List ℕ) where
   abbrev Long : Bool
   Long = eqb (length s) (suc (suc p.size))
 
-  pub no-head : (Long && is_headed kind s) ≡ false → false ≡ is_image (headed kind p) s
-  no-head e = sym (ap (λ (b : Bool). b && p.good (drop 2 s)) e) ∙ and_assoc Long (is_headed kind s) (p.good (drop 2 s))
-
-  pub head-long : (Long && is_headed kind s) ≡ true → length s ≡ suc (suc p.size)
-  head-long e = eqb-true (length s) (suc (suc p.size)) (both_left Long (is_headed kind s) e)
-
   pub after-head : {r : Bool} → (Long && is_headed kind s) ≡ true → r ≡ p.good (drop 2 s) → r ≡ is_image (headed kind p) s
   after-head e f = rw (both_left Long (is_headed kind s) e, both_right Long (is_headed kind s) e) f
 
@@ -49,10 +42,6 @@ module _ {A : Type 0} (kind : ℕ) (p : Part A) (s : List ℕ) where
 module _ (s : List ℕ) where
   pub request-bad : octets_parameter_part.good (drop 3 s) ≡ false → false ≡ request_fields.good (drop 2 s)
   request-bad e = rw (drop-drop 1 2 s, e)
-
-  pub request-good : {r : Bool} → octets_parameter_part.good (drop 3 s) ≡ true → r ≡ list_parameter_part.good (drop 21 s)
-      → r ≡ request_fields.good (drop 2 s)
-  request-good e f = rw (drop-drop 1 2 s, drop-drop 18 3 s, e) (f ∙ and-good (list_parameter_part.good (drop 21 s)))
 
   pub request-got : {n : OctetsParameter} {u : ListParameter} {x : ErrorReports} {k : ℕ} → n ≡ octets_parameter_part.get (drop 3 s)
       → u ≡ list_parameter_part.get (drop 21 s) → x ≡ error_reports_part.get (drop 277 s) → k ≡ big_endian (take 8 (drop 288 s))
@@ -77,9 +66,6 @@ request-stored q h w =
 module _ (a b c d e : Bool) where
   abbrev Five : Bool
   Five = (a && (b && (c && (d && e))))
-
-  no-first : a ≡ false → false ≡ Five
-  no-first p = rw p
 
   no_second : a ≡ true → b ≡ false → false ≡ Five
   no_second p q = rw (p, q)
@@ -112,9 +98,6 @@ module _ (s : List ℕ) (at : ℕ) where
       rw (drop-drop 12 218 x, drop-drop 18 230 x, drop-drop 18 248 x)
       (rw (drop-drop 218 at s, drop-drop 230 at s, drop-drop 248 at s, drop-drop 266 at s))
 
-  pub bad-keys : keys ≡ false → false ≡ earlier_fields.good x
-  bad-keys p = no-first keys address (string 230) (string 248) (string 266) p ∙ earlier-asks
-
   pub bad-address : keys ≡ true → address ≡ false → false ≡ earlier_fields.good x
   bad-address p q = no_second keys address (string 230) (string 248) (string 266) p q ∙ earlier-asks
 
@@ -127,9 +110,6 @@ module _ (s : List ℕ) (at : ℕ) where
   pub by-prefix : {z : Bool} → keys ≡ true → address ≡ true → string 230 ≡ true → string 248 ≡ true → z ≡ string 266
       → z ≡ earlier_fields.good x
   by-prefix p q r t u = by-fifth keys address (string 230) (string 248) (string 266) p q r t u ∙ earlier-asks
-
-  pub bad-list : list_parameter_part.good x ≡ false → false ≡ later_fields.good x
-  bad-list p = rw p
 
   pub by-rate : {z : Bool} → list_parameter_part.good x ≡ true → z ≡ rate_parameter_part.good (drop (at + 256) s) → z ≡ later_fields.good x
   by-rate p u = rw (p, drop-drop 256 at s) (u ∙ and-good (rate_parameter_part.good (drop (at + 256) s)))

@@ -5,7 +5,7 @@ ghost use Rattle.object_image.specs.Address.{short_address_part, address_paramet
 
 use crate::codes::{bool_at, disposition_at, is_bool, is_disposition, put_bool, put_disposition};
 use cojp::{AddressParameter, ShortAddress};
-use image::{array_2_at, number_at, put_array_2, put_number};
+use image::{array_at, number_at, put_array, put_number};
 
 // Whether the bytes at a place are a short address: it is leased or not.
 pub fn is_short_address(s: &[u8], at: usize) -> bool
@@ -21,7 +21,7 @@ pub fn short_address_at(s: &[u8], at: usize) -> ShortAddress
     ensures { result ≡ short_address_part.get (drop at s.now) }
 {
     ShortAddress {
-        bytes: array_2_at(s, at),
+        bytes: array_at(s, at),
         leased: bool_at(s, at + 2),
         lease: number_at(s, at + 3, 8),
     }
@@ -32,8 +32,7 @@ pub fn put_short_address(dst: &mut [u8], address: ShortAddress)
     requires { 11 ≤ length dst.old }
     ensures { Wrote (short_address_part.put address) dst.old 11 dst.new }
 {
-    let bytes = address.bytes;
-    put_array_2(dst, bytes);
+    put_array(dst, &address.bytes);
     put_bool(&mut dst[2..], address.leased);
     put_number(&mut dst[3..], 8, address.lease);
 }
@@ -43,10 +42,7 @@ pub fn is_address_parameter(s: &[u8], at: usize) -> bool
     requires { at + 12 ≤ length s.now }
     ensures { result ≡ address_parameter_part.good (drop at s.now) }
 {
-    if is_disposition(s, at) {
-        return is_short_address(s, at + 1);
-    }
-    false
+    is_disposition(s, at) && is_short_address(s, at + 1)
 }
 
 // The parameter at a place.
@@ -65,8 +61,6 @@ pub fn put_address_parameter(dst: &mut [u8], parameter: AddressParameter)
     requires { 12 ≤ length dst.old }
     ensures { Wrote (address_parameter_part.put parameter) dst.old 12 dst.new }
 {
-    let report = parameter.disposition;
-    let value = parameter.value;
-    put_disposition(dst, report);
-    put_short_address(&mut dst[1..], value);
+    put_disposition(dst, parameter.disposition);
+    put_short_address(&mut dst[1..], parameter.value);
 }

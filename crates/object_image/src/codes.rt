@@ -1,11 +1,12 @@
 // Reports and truth values, a byte each.
 ghost use Rattle.std.specs.Prelude.{◌≡◌, ◌+◌, ◌≤◌, length, drop};
 ghost use Rattle.byte_io.specs.Write.{Wrote};
-ghost use Rattle.object_image.specs.Codes.{disposition_number, disposition_of, disposition_part, bool_number, bool_part};
+ghost use Rattle.object_image.specs.Codes.{disposition_of, disposition_part, bool_part};
 
 use cojp::Disposition;
 use image::put_byte;
 
+// Kept: total, since `disposition_part.get` gives a byte over 2, which no image has, a meaning too; a TryFrom would have to stand in cojp.
 fn disposition_of(n: u8) -> Disposition
     ensures { result ≡ disposition_of n }
 {
@@ -13,16 +14,6 @@ fn disposition_of(n: u8) -> Disposition
         0 => Disposition::Absent,
         1 => Disposition::Taken,
         _ => Disposition::Discarded,
-    }
-}
-
-fn disposition_number(report: Disposition) -> u8
-    ensures { result ≡ disposition_number report }
-{
-    match report {
-        Disposition::Absent => 0,
-        Disposition::Taken => 1,
-        Disposition::Discarded => 2,
     }
 }
 
@@ -47,16 +38,7 @@ pub fn put_disposition(dst: &mut [u8], report: Disposition)
     requires { 1 ≤ length dst.old }
     ensures { Wrote (disposition_part.put report) dst.old 1 dst.new }
 {
-    put_byte(dst, disposition_number(report));
-}
-
-fn bool_number(truth: bool) -> u8
-    ensures { result ≡ bool_number truth }
-{
-    if truth {
-        return 1;
-    }
-    0
+    put_byte(dst, report as u8);
 }
 
 // Whether the byte at a place is a truth value.
@@ -80,5 +62,5 @@ pub fn put_bool(dst: &mut [u8], truth: bool)
     requires { 1 ≤ length dst.old }
     ensures { Wrote (bool_part.put truth) dst.old 1 dst.new }
 {
-    put_byte(dst, bool_number(truth));
+    put_byte(dst, truth as u8);
 }

@@ -24,10 +24,7 @@ fn is_keys_parameter(s: &[u8], at: usize) -> bool
     requires { at + 218 ≤ length s.now }
     ensures { result ≡ keys_parameter_part.good (drop at s.now) }
 {
-    if is_disposition(s, at) {
-        return is_key_set(s, at + 1);
-    }
-    false
+    is_disposition(s, at) && is_key_set(s, at + 1)
 }
 
 // The parameter at a place.
@@ -46,10 +43,8 @@ fn put_keys_parameter(dst: &mut [u8], parameter: KeysParameter)
     requires { 218 ≤ length dst.old }
     ensures { Wrote (keys_parameter_part.put parameter) dst.old 218 dst.new }
 {
-    let report = parameter.disposition;
-    let value = parameter.value;
-    put_disposition(dst, report);
-    put_key_set(&mut dst[1..], value);
+    put_disposition(dst, parameter.disposition);
+    put_key_set(&mut dst[1..], parameter.value);
 }
 
 // Whether the fields up to the prefix are good.
@@ -77,10 +72,7 @@ fn is_later(s: &[u8], at: usize) -> bool
     requires { at + 284 ≤ length s.now }
     ensures { result ≡ later_fields.good (drop at s.now) }
 {
-    if !is_list_parameter(s, at) {
-        return false;
-    }
-    is_rate_parameter(s, at + 256)
+    is_list_parameter(s, at) && is_rate_parameter(s, at + 256)
 }
 
 // Whether the bytes are a configuration's image.
@@ -119,16 +111,11 @@ fn put_earlier(dst: &mut [u8], configuration: Configuration)
     requires { 284 ≤ length dst.old }
     ensures { Wrote (earlier_fields.put (earlier_from configuration)) dst.old 284 dst.new }
 {
-    let keys = configuration.keys;
-    let address = configuration.address;
-    let jrc = configuration.jrc;
-    let network = configuration.network;
-    let prefix = configuration.prefix;
-    put_keys_parameter(dst, keys);
-    put_address_parameter(&mut dst[218..], address);
-    put_octets_parameter(&mut dst[230..], jrc);
-    put_octets_parameter(&mut dst[248..], network);
-    put_octets_parameter(&mut dst[266..], prefix);
+    put_keys_parameter(dst, configuration.keys);
+    put_address_parameter(&mut dst[218..], configuration.address);
+    put_octets_parameter(&mut dst[230..], configuration.jrc);
+    put_octets_parameter(&mut dst[248..], configuration.network);
+    put_octets_parameter(&mut dst[266..], configuration.prefix);
 }
 
 // Writes the fields from the blacklist on.
@@ -136,12 +123,9 @@ fn put_later(dst: &mut [u8], configuration: Configuration)
     requires { 284 ≤ length dst.old }
     ensures { Wrote (later_fields.put (later_from configuration)) dst.old 284 dst.new }
 {
-    let blacklist = configuration.blacklist;
-    let rate = configuration.rate;
-    let met = configuration.labels;
-    put_list_parameter(dst, blacklist);
-    put_rate_parameter(&mut dst[256..], rate);
-    put_error_reports(&mut dst[265..], met);
+    put_list_parameter(dst, configuration.blacklist);
+    put_rate_parameter(&mut dst[256..], configuration.rate);
+    put_error_reports(&mut dst[265..], configuration.labels);
     put_number(&mut dst[276..], 8, configuration.unknown);
 }
 

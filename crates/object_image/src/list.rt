@@ -5,7 +5,7 @@ ghost use Rattle.object_image.specs.Lists.{list_part, list_parameter_part};
 
 use crate::codes::{disposition_at, is_disposition, put_disposition};
 use cojp::{ItemList, ListParameter};
-use image::{array_253_at, number_at, put_array_253, put_number};
+use image::{array_at, number_at, put_array, put_number};
 
 // The list at a place.
 pub fn list_at(s: &[u8], at: usize) -> ItemList
@@ -15,7 +15,7 @@ pub fn list_at(s: &[u8], at: usize) -> ItemList
     ItemList {
         count: number_at(s, at, 1),
         len: number_at(s, at + 1, 1) as usize,
-        bytes: array_253_at(s, at + 2),
+        bytes: array_at(s, at + 2),
     }
 }
 
@@ -24,10 +24,9 @@ pub fn put_list(dst: &mut [u8], list: ItemList)
     requires { 255 ≤ length dst.old }
     ensures { Wrote (list_part.put list) dst.old 255 dst.new }
 {
-    let bytes = list.bytes;
     put_number(dst, 1, list.count);
     put_number(&mut dst[1..], 1, list.len as u64);
-    put_array_253(&mut dst[2..], bytes);
+    put_array(&mut dst[2..], &list.bytes);
 }
 
 // Whether the bytes at a place are a list as a parameter.
@@ -54,8 +53,6 @@ pub fn put_list_parameter(dst: &mut [u8], parameter: ListParameter)
     requires { 256 ≤ length dst.old }
     ensures { Wrote (list_parameter_part.put parameter) dst.old 256 dst.new }
 {
-    let report = parameter.disposition;
-    let value = parameter.value;
-    put_disposition(dst, report);
-    put_list(&mut dst[1..], value);
+    put_disposition(dst, parameter.disposition);
+    put_list(&mut dst[1..], parameter.value);
 }

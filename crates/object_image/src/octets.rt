@@ -5,7 +5,7 @@ ghost use Rattle.object_image.specs.Octets.{octets_part, octets_parameter_part};
 
 use crate::codes::{disposition_at, is_disposition, put_disposition};
 use cojp::{Octets, OctetsParameter};
-use image::{array_16_at, number_at, put_array_16, put_number};
+use image::{array_at, number_at, put_array, put_number};
 
 // The byte string at a place.
 pub fn octets_at(s: &[u8], at: usize) -> Octets
@@ -14,7 +14,7 @@ pub fn octets_at(s: &[u8], at: usize) -> Octets
 {
     Octets {
         len: number_at(s, at, 1) as usize,
-        bytes: array_16_at(s, at + 1),
+        bytes: array_at(s, at + 1),
     }
 }
 
@@ -23,9 +23,8 @@ pub fn put_octets(dst: &mut [u8], octets: Octets)
     requires { 17 ≤ length dst.old }
     ensures { Wrote (octets_part.put octets) dst.old 17 dst.new }
 {
-    let bytes = octets.bytes;
     put_number(dst, 1, octets.len as u64);
-    put_array_16(&mut dst[1..], bytes);
+    put_array(&mut dst[1..], &octets.bytes);
 }
 
 // Whether the bytes at a place are a byte string as a parameter.
@@ -52,8 +51,6 @@ pub fn put_octets_parameter(dst: &mut [u8], parameter: OctetsParameter)
     requires { 18 ≤ length dst.old }
     ensures { Wrote (octets_parameter_part.put parameter) dst.old 18 dst.new }
 {
-    let report = parameter.disposition;
-    let value = parameter.value;
-    put_disposition(dst, report);
-    put_octets(&mut dst[1..], value);
+    put_disposition(dst, parameter.disposition);
+    put_octets(&mut dst[1..], parameter.value);
 }

@@ -31,7 +31,6 @@ pub fn put_rate_parameter(dst: &mut [u8], parameter: RateParameter)
     requires { 9 ≤ length dst.old }
     ensures { Wrote (rate_parameter_part.put parameter) dst.old 9 dst.new }
 {
-    let report = parameter.disposition;
-    put_disposition(dst, report);
+    put_disposition(dst, parameter.disposition);
     put_number(&mut dst[1..], 8, parameter.value);
 }

@@ -18,13 +18,7 @@ const SIZE: usize = 296;
 pub fn is_request(s: &[u8]) -> bool
     ensures { result ≡ is_image request_image s.now }
 {
-    if !is_headed(s, SIZE, KIND) {
-        return false;
-    }
-    if !is_octets_parameter(s, 3) {
-        return false;
-    }
-    is_list_parameter(s, 21)
+    is_headed(s, SIZE, KIND) && is_octets_parameter(s, 3) && is_list_parameter(s, 21)
 }
 
 // The join request in an image.
@@ -46,10 +40,8 @@ fn put_later(dst: &mut [u8], request: JoinRequest)
     requires { 275 ≤ length dst.old }
     ensures { Wrote (later_fields.put (later_from request)) dst.old 275 dst.new }
 {
-    let unsupported = request.unsupported;
-    let faults = request.errors;
-    put_list_parameter(dst, unsupported);
-    put_error_reports(&mut dst[256..], faults);
+    put_list_parameter(dst, request.unsupported);
+    put_error_reports(&mut dst[256..], request.errors);
     put_number(&mut dst[267..], 8, request.unknown);
 }
 
@@ -58,9 +50,8 @@ pub fn put_request(dst: &mut [u8], request: JoinRequest)
     requires { length dst.old ≡ 296 }
     ensures { dst.new ≡ request_image.put request }
 {
-    let network = request.network;
     put_head(dst, KIND);
     put_byte(&mut dst[2..], request.role);
-    put_octets_parameter(&mut dst[3..], network);
+    put_octets_parameter(&mut dst[3..], request.network);
     put_later(&mut dst[21..], request);
 }

@@ -1,13 +1,14 @@
 -- What a call tells by the answer of the function behind it, one law to a kind of answer.
+use Rattle.std.specs.Prelude.{Result}
+use Rattle.refusal.specs.declared.Refusal.{Refusal}
 use Prim.Native.Nat.{ℕ}
 use mathlib.Core.Path.{◌≡◌, ap, ◌∙◌}
 use mathlib.Core.Bool.{Bool, true, false, ◌&&◌, and-false}
 use mathlib.Core.List.{List}
 use lib.ListN.{length, replicate}
 use Rattle.refusal.specs.Verdict.{verdict_number}
-use Rattle.refusal.specs.declared.Verdict.{Verdict}
+use Rattle.refusal.specs.Verdict.{Verdict}
 use Rattle.byte_io.specs.Write.{Plan, Did, written_says}
-use Rattle.byte_io.specs.declared.WriteResult.{WriteResult}
 use Rattle.image.specs.Effects.{on_accept, ResultSpec}
 use Rattle.image.proofs.Lent.{hands-told}
 use Rattle.payload_calls.specs.Write.{Writes, range_first}
@@ -21,7 +22,7 @@ module _ {A : Type 0} (n : ℕ) (right : Bool) (verdict : A → Verdict) (image 
       (f ∙ ap (λ (x : A). verdict_number (verdict x)) e)
       (g ∙ ap (λ (x : A). on_accept (verdict x) (replicate n 0) (image x)) e)
 
-module _ {A B : Type 0} (right : Bool) (plan : A → B → Plan) (d d' : List ℕ) (w : WriteResult) where
+module _ {A B : Type 0} (right : Bool) (plan : A → B → Plan) (d d' : List ℕ) (w : Result ℕ Refusal) where
   -- the plan for x and y is the one for a and b
   pub wrote_as : {x a : A} {y b : B} {r n : ℕ} → right ≡ true → x ≡ a → y ≡ b → Did (plan x y) d w d' → r ≡ (written_says w).0
       → n ≡ (written_says w).1
@@ -29,9 +30,9 @@ module _ {A B : Type 0} (right : Bool) (plan : A → B → Plan) (d d' : List �
   wrote_as {x} {a} {y} {b} e f g did h i =
       let own : Did (plan a b) d w d' = rw (f, g) at did in
       record {
-        number = rw e (h ∙ ap (λ (v : WriteResult). (written_says v).0) own.says);
+        number = rw e (h ∙ ap (λ (v : Result ℕ Refusal). (written_says v).0) own.says);
         dst = rw e own.holds;
-        long = rw e (i ∙ ap (λ (v : WriteResult). (written_says v).1) own.says);
+        long = rw e (i ∙ ap (λ (v : Result ℕ Refusal). (written_says v).1) own.says);
       }
 
 -- two tests, one after the other

@@ -1,4 +1,5 @@
 -- A call whose number is not 0 was refused, and what a refusal leaves is said by the verdict or the plan alone.
+use Rattle.std.specs.Prelude.{Ok, Err}
 use Prim.Native.Nat.{ℕ}
 use mathlib.Core.Path.{◌≡◌}
 use mathlib.Core.Bool.{Bool, true, false, ◌&&◌, cond}
@@ -7,7 +8,6 @@ use lib.Dec.{leb}
 use lib.ListN.{length, drop}
 use Rattle.refusal.specs.declared.Refusal.TheVariants.{Room}
 use Rattle.byte_io.specs.Write.{Plan, refuse, emit, written_says}
-use Rattle.byte_io.specs.declared.WriteResult.TheVariants as written
 use Rattle.image.proofs.Lent.{hands-emptied}
 use Rattle.image.specs.Part.{is_image}
 use Rattle.object_image.specs.Configuration.{configuration_image}
@@ -20,9 +20,9 @@ use Rattle.payload_calls.specs.Write.{Writes}
 
 -- as many bytes as there is room for, or not
 kept_by : (t : Bool) (p d : List ℕ) {r n : ℕ} {d' : List ℕ} → (r ≡ 0 → ⊥)
-    → r ≡ (written_says (cond t (written.Length (length p)) (written.Refused Room))).0
+    → r ≡ (written_says (cond t (Ok (length p)) (Err Room))).0
     → d' ≡ cond t (p ++ drop (length p) d) d
-    → n ≡ (written_says (cond t (written.Length (length p)) (written.Refused Room))).1
+    → n ≡ (written_says (cond t (Ok (length p)) (Err Room))).1
     → (d' ≡ d) × (n ≡ 0)
 kept_by true p d h e f g = absurd (h e)
 kept_by false p d h e f g = (f, g)

@@ -1,4 +1,5 @@
 pub mod Asked
+pub mod AskedLemmas
 pub mod Read
 pub mod Write
 pub mod Merge

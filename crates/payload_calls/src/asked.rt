@@ -1,10 +1,7 @@
-// The function behind a call, by the numbers that ask for it.
-ghost use Rattle.std.specs.Prelude.{◌≡◌};
+// What the numbers of a call ask for.
+ghost use Rattle.std.specs.Prelude.{true, false, not, eqb, ◌≡◌, MatchOption};
 ghost use Rattle.payload_calls.specs.Asked.{is_version, is_reading, version_of};
-ghost use Rattle.payload_calls.specs.Read.{request_asked, configuration_asked};
 
-use cojp::{ConfigurationRead, RequestRead};
-use cojp_read::{read_configuration, read_request};
 use protocol_version::Version;
 
 // Whether there is such a form.
@@ -24,7 +21,7 @@ pub fn is_reading(form: u64, reading: u64) -> bool
     reading <= 1
 }
 
-// 0 is document 01's form, 1 that of RFC 9031.
+// The version of a form: 0 is document 01's, and 1 that of RFC 9031.
 pub fn version_of(form: u64) -> Version
     ensures { result ≡ version_of form }
 {
@@ -34,23 +31,24 @@ pub fn version_of(form: u64) -> Version
     Version::Published
 }
 
-// Reading 0 is the ordinary one, 1 the strict one.
-pub(crate) fn request_asked(form: u64, reading: u64, payload: &[u8]) -> RequestRead
-    ensures { result ≡ request_asked form reading payload.now }
+// The version of a form, if there is such a form.
+pub(crate) fn known_version(form: u64) -> Option<Version>
+    ensures { MatchOption result (is_version form ≡ false)
+        (λ version. (is_version form ≡ true) × (version ≡ version_of form)) }
 {
-    let version = version_of(form);
-    if reading == 0 {
-        return read_request(payload, version, false);
+    if !is_version(form) {
+        return None;
     }
-    read_request(payload, version, true)
+    Some(version_of(form))
 }
 
-pub(crate) fn configuration_asked(form: u64, reading: u64, payload: &[u8]) -> ConfigurationRead
-    ensures { result ≡ configuration_asked form reading payload.now }
+// The version of a form, and whether the reading is the strict one: 0 is the ordinary reading, 1 the strict one.
+pub fn reading_of(form: u64, reading: u64) -> Option<(Version, bool)>
+    ensures { MatchOption result (is_reading form reading ≡ false)
+        (λ x. (is_reading form reading ≡ true) × (x.0 ≡ version_of form) × (x.1 ≡ not (eqb reading 0))) }
 {
-    let version = version_of(form);
-    if reading == 0 {
-        return read_configuration(payload, version, false);
+    if !is_reading(form, reading) {
+        return None;
     }
-    read_configuration(payload, version, true)
+    Some((version_of(form), reading == 1))
 }

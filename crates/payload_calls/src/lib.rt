@@ -10,7 +10,7 @@ mod write;
 
 ghost use Rattle.payload_calls.specs.Laws.{PayloadRefusals};
 
-pub use asked::{is_reading, version_of};
+pub use asked::{is_reading, reading_of, version_of};
 pub use merge::configuration_merge;
 pub use read::{configuration_read, request_read};
 pub use store::{store_configuration, store_request};

@@ -22,7 +22,5 @@ pub fn configuration_merge(first: &[u8], second: &[u8], out: &mut [u8]) -> u32
         return RANGE;
     }
     let merged = merge(configuration_in(first), configuration_in(second));
-    let verdict = merged.verdict;
-    let configuration = merged.configuration;
-    store_configuration(verdict, configuration, out)
+    store_configuration(merged.verdict, merged.configuration, out)
 }

@@ -1,8 +1,9 @@
 // Payloads are read.
 ghost use Rattle.payload_calls.specs.Read.{ReadsRequest, ReadsConfiguration};
 
-use crate::asked::{configuration_asked, is_reading, request_asked};
+use crate::asked::reading_of;
 use crate::store::{store_configuration, store_request};
+use cojp_read::{read_configuration, read_request};
 use image::{RANGE, clear};
 
 // Reads a join request.
@@ -12,14 +13,12 @@ pub fn request_read(form: u64, reading: u64, payload: &[u8], out: &mut [u8]) -> 
     if out.len() != 296 {
         return RANGE;
     }
-    if !is_reading(form, reading) {
+    let Some((version, strict)) = reading_of(form, reading) else {
         clear(out);
         return RANGE;
-    }
-    let read = request_asked(form, reading, payload);
-    let verdict = read.verdict;
-    let request = read.request;
-    store_request(verdict, request, out)
+    };
+    let read = read_request(payload, version, strict);
+    store_request(read.verdict, read.request, out)
 }
 
 // Reads a configuration.
@@ -29,12 +28,10 @@ pub fn configuration_read(form: u64, reading: u64, payload: &[u8], out: &mut [u8
     if out.len() != 570 {
         return RANGE;
     }
-    if !is_reading(form, reading) {
+    let Some((version, strict)) = reading_of(form, reading) else {
         clear(out);
         return RANGE;
-    }
-    let read = configuration_asked(form, reading, payload);
-    let verdict = read.verdict;
-    let configuration = read.configuration;
-    store_configuration(verdict, configuration, out)
+    };
+    let read = read_configuration(payload, version, strict);
+    store_configuration(read.verdict, read.configuration, out)
 }

@@ -6,24 +6,25 @@ ghost use Rattle.image.specs.Effects.{on_accept};
 ghost use Rattle.object_image.specs.Configuration.{configuration_image};
 ghost use Rattle.object_image.specs.Request.{request_image};
 
-use byte_io::WriteResult;
 use cojp::{Configuration, JoinRequest};
 use image::clear;
 use object_image::{put_configuration, put_request};
-use refusal::Verdict;
+use refusal::Refusal;
+
+// Kept: one function for each object, since the clauses of the C interface name its image and its size.
 
 // A join request as a result.
-pub fn store_request(verdict: Verdict, request: JoinRequest, out: &mut [u8]) -> u32
+pub fn store_request(verdict: Result<(), Refusal>, request: JoinRequest, out: &mut [u8]) -> u32
     requires { size out.old ≡ 296 }
     ensures number { result ≡ verdict_number verdict }
     ensures out { out.new ≡ on_accept verdict (replicate 296 0) (request_image.put request) }
 {
     match verdict {
-        Verdict::Accepted => {
+        Ok(()) => {
             put_request(out, request);
             0
         }
-        Verdict::Refused(why) => {
+        Err(why) => {
             clear(out);
             why.number() as u32
         }
@@ -31,17 +32,21 @@ pub fn store_request(verdict: Verdict, request: JoinRequest, out: &mut [u8]) -> 
 }
 
 // A configuration as a result.
-pub fn store_configuration(verdict: Verdict, configuration: Configuration, out: &mut [u8]) -> u32
+pub fn store_configuration(
+    verdict: Result<(), Refusal>,
+    configuration: Configuration,
+    out: &mut [u8],
+) -> u32
     requires { size out.old ≡ 570 }
     ensures number { result ≡ verdict_number verdict }
     ensures out { out.new ≡ on_accept verdict (replicate 570 0) (configuration_image.put configuration) }
 {
     match verdict {
-        Verdict::Accepted => {
+        Ok(()) => {
             put_configuration(out, configuration);
             0
         }
-        Verdict::Refused(why) => {
+        Err(why) => {
             clear(out);
             why.number() as u32
         }
@@ -49,16 +54,16 @@ pub fn store_configuration(verdict: Verdict, configuration: Configuration, out: 
 }
 
 // How many bytes were written.
-pub(crate) fn store_length(written: WriteResult, length: &mut u64) -> u32
+pub(crate) fn store_length(written: Result<usize, Refusal>, length: &mut u64) -> u32
     ensures number { result ≡ (written_says written).0 }
     ensures length { length.new ≡ (written_says written).1 }
 {
     match written {
-        WriteResult::Refused(why) => {
+        Err(why) => {
             *length = 0;
             why.number() as u32
         }
-        WriteResult::Length(n) => {
+        Ok(n) => {
             *length = n as u64;
             0
         }

@@ -1,7 +1,7 @@
 // Objects are written.
 ghost use Rattle.payload_calls.specs.Write.{Writes, request_writing, configuration_writing};
 
-use crate::asked::{is_version, version_of};
+use crate::asked::known_version;
 use crate::store::store_length;
 use cojp_write::{write_configuration, write_request};
 use image::RANGE;
@@ -11,15 +11,15 @@ use object_image::{configuration_in, is_configuration, is_request, request_in};
 pub fn request_write(form: u64, object: &[u8], dst: &mut [u8], length: &mut u64) -> u32
     ensures { Writes (request_writing form object.now) dst.old result dst.new length.new }
 {
-    if !is_version(form) {
+    let Some(version) = known_version(form) else {
         *length = 0;
         return RANGE;
-    }
+    };
     if !is_request(object) {
         *length = 0;
         return RANGE;
     }
-    let written = write_request(dst, request_in(object), version_of(form));
+    let written = write_request(dst, request_in(object), version);
     store_length(written, length)
 }
 
@@ -28,14 +28,14 @@ pub fn configuration_write(form: u64, object: &[u8], dst: &mut [u8], length: &mu
     ensures { Writes (configuration_writing form object.now) dst.old result dst.new
         length.new }
 {
-    if !is_version(form) {
+    let Some(version) = known_version(form) else {
         *length = 0;
         return RANGE;
-    }
+    };
     if !is_configuration(object) {
         *length = 0;
         return RANGE;
     }
-    let written = write_configuration(dst, configuration_in(object), version_of(form));
+    let written = write_configuration(dst, configuration_in(object), version);
     store_length(written, length)
 }

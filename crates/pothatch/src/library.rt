@@ -13,6 +13,7 @@ pub fn pothatch_layout() -> u32
 }
 
 // The size of the struct of a kind, a letter in ASCII; 0 where there is none.
+// Kept: 0 and not an Option, since C is handed 0 (`pothatch_size`, RefusalsKeep.size).
 fn size_of(kind: u64) -> u32
     ensures { result ≡ size_of kind }
 {

@@ -3,7 +3,7 @@ ghost use Rattle.std.specs.Prelude.{◌≡◌};
 ghost use Rattle.pothatch.specs.Usage.{encryption, UsageSpec};
 
 use crate::wide::code_of;
-use link_key::usage::{Entry, Family, entry_at};
+use link_key::usage::{Family, entry_at};
 
 fn encryption_of(family: Family) -> u32
     ensures { result ≡ encryption family }
@@ -22,12 +22,12 @@ pub fn pothatch_key_usage(usage: u64, encrypted: &mut u32, mic_length: &mut u32)
     ensures { UsageSpec usage result encrypted.new mic_length.new }
 {
     match entry_at(code_of(usage)) {
-        Entry::Refused(why) => {
+        Err(why) => {
             *encrypted = 0;
             *mic_length = 0;
             why.number() as u32
         }
-        Entry::Listed(listed) => {
+        Ok(listed) => {
             let family = listed.family;
             *encrypted = encryption_of(family);
             *mic_length = listed.mic as u32 / 8;

@@ -6,18 +6,12 @@ ghost use Rattle.pothatch.specs.Wide.{code_of, identifier_of};
 pub(crate) fn code_of(number: u64) -> u8
     ensures { result ≡ code_of number }
 {
-    if 255 < number {
-        return 255;
-    }
-    number as u8
+    u8::try_from(number).unwrap_or(u8::MAX)
 }
 
 // The identifier of a key.
 pub(crate) fn identifier_of(number: u64) -> u8
     ensures { result ≡ identifier_of number }
 {
-    if 255 < number {
-        return 0;
-    }
-    number as u8
+    u8::try_from(number).unwrap_or(0)
 }

@@ -9,7 +9,7 @@ use borrow.Author.Tests.{eq-eqb, ltb-false, lt-leb}
 use lib.Dec.{leb, ltb}
 use lib.ListN.{length, replicate}
 use Rattle.refusal.specs.Verdict.{verdict_number}
-use Rattle.refusal.specs.declared.Verdict.{Verdict}
+use Rattle.refusal.specs.Verdict.{Verdict}
 use Rattle.image.specs.Effects.{on_accept}
 use Rattle.image.specs.Part.{RoundTrips, is_image}
 use Rattle.cbor.specs.Strict.{head_by}

@@ -1,5 +1,6 @@
 -- Every call keeps a ledger that an image can hold: what is opened ends at FFFF at most, no more are free than there are, and there is a
 -- mark for each of 64 groups.
+use Rattle.std.specs.Prelude.{Ok, Err}
 use Prim.Native.Nat.{ℕ, zero, suc, ◌+◌, ◌-◌, ◌*◌, ◌/◌, ◌^◌, ◌≤◌, ◌<◌}
 use mathlib.Core.Path.{◌≡◌, refl, ap}
 use mathlib.Core.Bool.{Bool, true, false, cond, ◌&&◌}
@@ -11,8 +12,7 @@ use lib.Dec.{leb, ltb}
 use lib.ListN.{length, take, drop}
 use Rattle.lemmas.specs.logic.Tests.{both_left, both_right}
 use Rattle.refusal.specs.Verdict.{verdict_number}
-use Rattle.refusal.specs.declared.Verdict.{Verdict}
-use Rattle.refusal.specs.declared.Verdict.TheVariants as verdict
+use Rattle.refusal.specs.Verdict.{Verdict}
 use Rattle.short_address.specs.Address.{is_address, bytes_of}
 use Rattle.address_slots.specs.Marks.{bit, with_mark, group_at, group_of, marks_of, refreshed, slot_found_by}
 use Rattle.address_slots.specs.Slot.{Slot, slots, is_free, has, count_free, hold, freed, slot_found}
@@ -127,8 +127,8 @@ module _ (l : Ledger) (m b : List ℕ) (f : Fits l) where
 
   granted-by : (v : Verdict) → Fits (granted_by v l m b).ledger
   unfolding granted_by
-  granted-by verdict.Accepted = granting-fits (counted_of l) (slot_found_by l.summary b (places_of l m)) few
-  granted-by (verdict.Refused r) = f
+  granted-by (Ok tt) = granting-fits (counted_of l) (slot_found_by l.summary b (places_of l m)) few
+  granted-by (Err r) = f
 
   granted-fits : Fits (granted l m b).ledger
   unfolding granted
@@ -136,8 +136,8 @@ module _ (l : Ledger) (m b : List ℕ) (f : Fits l) where
 
   given_by : (v : Verdict) → Fits (given_back_by v l m b).ledger
   unfolding given_back_by
-  given_by verdict.Accepted = giving-fits (counted_of l) (slot_found b (places_of l m)) few
-  given_by (verdict.Refused r) = f
+  given_by (Ok tt) = giving-fits (counted_of l) (slot_found b (places_of l m)) few
+  given_by (Err r) = f
 
   given-fits : Fits (given_back l m b).ledger
   unfolding given_back
@@ -149,7 +149,7 @@ record Within (first size : ℕ) : Type 0 where
   few : size ≤ 4096
   end : first + size ≤ 65536
 
-within : (first size len : ℕ) (b : Bool) → in_limits first size ≡ b → judged first size len ≡ verdict.Accepted → Within first size
+within : (first size len : ℕ) (b : Bool) → in_limits first size ≡ b → judged first size len ≡ Ok tt → Within first size
 unfolding judged in_limits
 within first size len true e h =
     let rest = both_right (leb 1 size) (leb size 4096 && leb (first + size) 65536) e in
@@ -165,7 +165,7 @@ within first size len false e h =
 module _ (first size : ℕ) (m : List ℕ) where
   opened-by : (v : Verdict) → judged first size (length m) ≡ v → Fits (opened_by v first size m).ledger
   unfolding opened_by
-  opened-by verdict.Accepted e =
+  opened-by (Ok tt) e =
       let h = within first size (length m) (in_limits first size) refl e in
       record {
         first = omega (arith, h.some, h.end);
@@ -174,7 +174,7 @@ module _ (first size : ℕ) (m : List ℕ) where
             omega (arith, h.few, counted-most first size, places-many (counted first size) m, free-most (slots (counted first size) m));
         marks = marks-below 64 (slots (counted first size) m);
       }
-  opened-by (verdict.Refused r) e = record { first = omega arith; size = omega arith; free = omega arith; marks = omega arith }
+  opened-by (Err r) e = record { first = omega arith; size = omega arith; free = omega arith; marks = omega arith }
 
   pub opened-fits : ledger_image.Fit (opened first size m).ledger
   unfolding opened

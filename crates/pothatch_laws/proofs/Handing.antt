@@ -6,7 +6,7 @@ use mathlib.Core.List.{List}
 use borrow.Author.Tests.{eq-eqb}
 use lib.ListN.{length, replicate}
 use Rattle.refusal.specs.Verdict.{verdict_number}
-use Rattle.refusal.specs.declared.Verdict.{Verdict}
+use Rattle.refusal.specs.Verdict.{Verdict}
 use Rattle.image.specs.Effects.{on_accept, ResultSpec}
 
 module _ {n : ℕ} {right : Bool} {v : Verdict} {image s : List ℕ} {r : ℕ} {s' : List ℕ} (d : ResultSpec n right v image s r s')

@@ -1,5 +1,6 @@
 -- A shift in C is a history of the ledger in which each call is handed the count and the summary of its struct; a board of another length
 -- is refused and is left out of it. So the ledger's laws speak of what the program was answered.
+use Rattle.std.specs.Prelude.{Result, Ok, Err}
 use Prim.Native.Nat.{ℕ, ◌+◌}
 use mathlib.Core.Path.{◌≡◌, refl, ap, ap₂, sym, ◌∙◌, subst}
 use mathlib.Core.Bool.{Bool, true, false}
@@ -20,8 +21,6 @@ use Rattle.address_slots.specs.Slot.{slots, count_free}
 use Rattle.address_ledger.specs.range.Range.{counted}
 use Rattle.address_ledger.specs.Answers.{address_verdict, address_value}
 use Rattle.address_ledger.specs.Ledger.{Outcome, outcome, ledger_of, opened, granted, given_back}
-use Rattle.address_ledger.specs.declared.answer.AddressAnswer.{AddressAnswer}
-use Rattle.address_ledger.specs.declared.answer.AddressAnswer.TheVariants.{Address, Refused}
 use Rattle.address_ledger.specs.declared.ledger.Ledger.{Ledger}
 use Rattle.address_ledger_laws.specs.Demand1.{asking, returning, perform, Demand1}
 use Rattle.address_ledger_laws.specs.History as history
@@ -76,20 +75,20 @@ of_range : (first size : ℕ) (l : Ledger) → l.first ≡ first → l.size ≡ 
 of_range first size l e f = ap₂ (λ (x y : ℕ). ledger_of x y l.free l.summary) e f
 
 -- ---- what a call in C answered and left, where the ledger's own call answers a and leaves the memory `after`
-record Did (a : AddressAnswer) (after : List ℕ) (r v : ℕ) (m' : List ℕ) : Type 0 where
+record Did (a : Result ℕ Refusal) (after : List ℕ) (r v : ℕ) (m' : List ℕ) : Type 0 where
   memory : m' ≡ after
-  number : (n : ℕ) → a ≡ Address n → (r ≡ 0) × (v ≡ n)
-  refused : (k : Refusal) → a ≡ Refused k → r ≡ 0 → ⊥
+  number : (n : ℕ) → a ≡ Ok n → (r ≡ 0) × (v ≡ n)
+  refused : (k : Refusal) → a ≡ Err k → r ≡ 0 → ⊥
 
-did-by : (a : AddressAnswer) (m after : List ℕ) {r v : ℕ} {m' : List ℕ} → ((k : Refusal) → a ≡ Refused k → after ≡ m)
+did-by : (a : Result ℕ Refusal) (m after : List ℕ) {r v : ℕ} {m' : List ℕ} → ((k : Refusal) → a ≡ Err k → after ≡ m)
     → r ≡ verdict_number (address_verdict a) → m' ≡ on_accept (address_verdict a) m after → v ≡ on_accept (address_verdict a) 0 (address_value a)
     → Did a after r v m'
-did-by (Address n) m after kept e f g = record {
+did-by (Ok n) m after kept e f g = record {
   memory = f;
   number = λ k q. let z : n ≡ k = cc in (e, g ∙ z);
   refused = λ k q. let z : ◌≡◌ {A = ℕ} 0 1 = cc in absurd (omega arith);
 }
-did-by (Refused k) m after kept e f g = record {
+did-by (Err k) m after kept e f g = record {
   memory = f ∙ sym (kept k refl);
   number = λ n q. let z : ◌≡◌ {A = ℕ} 0 1 = cc in absurd (omega arith);
   refused = λ j q z. some_number k (sym e ∙ z);
@@ -124,19 +123,19 @@ module _ (b : List ℕ) (w : eqb (length b) 8 ≡ false) {s s' m m' : List ℕ} 
   given-other d = (rw w at d.number, rw w at d.memory)
 
 -- ---- the holdings by the numbers are those by the answer
-asked-held : (b : List ℕ) (hs : List Holding) (a : AddressAnswer) {after : List ℕ} {r v : ℕ} {m' : List ℕ} → Did a after r v m'
+asked-held : (b : List ℕ) (hs : List Holding) (a : Result ℕ Refusal) {after : List ℕ} {r v : ℕ} {m' : List ℕ} → Did a after r v m'
     → held_after (asks b) r v hs ≡ after_ask b a hs
 unfolding after_ask
-asked-held b hs (Address n) {r = r} d =
+asked-held b hs (Ok n) {r = r} d =
     let p = d.number n refl in
     rw (eq-eqb r 0 p.0, p.1)
-asked-held b hs (Refused k) {r = r} d = rw (ne_eqb r 0 (d.refused k refl))
+asked-held b hs (Err k) {r = r} d = rw (ne_eqb r 0 (d.refused k refl))
 
-given-held : (b : List ℕ) (hs : List Holding) (a : AddressAnswer) {after : List ℕ} {r v : ℕ} {m' : List ℕ} → Did a after r v m'
+given-held : (b : List ℕ) (hs : List Holding) (a : Result ℕ Refusal) {after : List ℕ} {r v : ℕ} {m' : List ℕ} → Did a after r v m'
     → held_after (gives b) r v hs ≡ after_give b a hs
 unfolding after_give
-given-held b hs (Address n) {r = r} d = rw (eq-eqb r 0 (d.number n refl).0)
-given-held b hs (Refused k) {r = r} d = rw (ne_eqb r 0 (d.refused k refl))
+given-held b hs (Ok n) {r = r} d = rw (eq-eqb r 0 (d.number n refl).0)
+given-held b hs (Err k) {r = r} d = rw (ne_eqb r 0 (d.refused k refl))
 
 not-zero : (r : ℕ) → r ≡ 13 → eqb r 0 ≡ false
 not-zero r e = ne_eqb r 0 (λ (z : r ≡ 0). omega arith)
@@ -275,13 +274,13 @@ module _ (demand1 : Demand1) (held : HeldAndFree) (one-holder : OneHolder) (same
       boards = boards-on t.calls (history.hands l.free l.summary ∷ []) t.boards refl;
     }
 
-    again : listed b ks ≡ true → granted l z b ≡ outcome (Address (address_of b ks)) l z
+    again : listed b ks ≡ true → granted l z b ≡ outcome (Ok (address_of b ks)) l z
     unfolding SameAgain
     again y =
         let p = same-again first size m ended ended-begins b (subst (λ (k : Moment). listed b k.holding ≡ true) (sym last) y) in
         let q = subst
-        (λ (k : Moment). granted k.ledger k.memory b ≡ outcome (Address (address_of b k.holding)) k.ledger k.memory) last p in
-        subst (λ (k : Ledger). granted k z b ≡ outcome (Address (address_of b ks)) k z)
+        (λ (k : Moment). granted k.ledger k.memory b ≡ outcome (Ok (address_of b k.holding)) k.ledger k.memory) last p in
+        subst (λ (k : Ledger). granted k z b ≡ outcome (Ok (address_of b ks)) k z)
         (sym (of_range first size l g.starts g.sized)) q
 
   pub ledger-histories : LedgerHistories

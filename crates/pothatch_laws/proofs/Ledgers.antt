@@ -1,5 +1,6 @@
 -- One call from C does to the image what the ledger's own call does to the ledger: the ledger is loaded as it was stored, and has an image
 -- again after every call. Zeros are no image, so every call but an opening is RANGE on them.
+use Rattle.std.specs.Prelude.{Ok, Err}
 use Prim.Native.Nat.{ℕ}
 use mathlib.Core.Path.{◌≡◌, refl, ap, ap₂, sym, ◌∙◌, subst}
 use mathlib.Core.Bool.{Bool, true, false, cond}
@@ -8,8 +9,7 @@ use borrow.Author.Tests.{eq-eqb}
 use lib.Dec.{eqb}
 use lib.ListN.{length, replicate}
 use Rattle.refusal.specs.Verdict.{verdict_number}
-use Rattle.refusal.specs.declared.Verdict.{Verdict}
-use Rattle.refusal.specs.declared.Verdict.TheVariants.{Accepted, Refused}
+use Rattle.refusal.specs.Verdict.{Verdict}
 use Rattle.image.specs.Effects.{on_accept}
 use Rattle.image.specs.Part.{RoundTrips, is_image}
 use Rattle.address_ledger.specs.Ledger.{opened}
@@ -50,17 +50,17 @@ ranged-follows h {t} a e f g i = record { same-told = told-as t e f; stands = su
 -- ---- a call other than an opening, on the ledger of the image
 module _ (demand1 : Demand1) (c : LedgerCall) (l : Ledger) (m : List ℕ) (k : ledger_left c l ≡ l) where
   value-left : (v : Verdict) → (perform c l m).verdict ≡ v → on_accept v 0 (perform c l m).value ≡ (perform c l m).value
-  value-left Accepted e = refl
-  value-left (Refused r) e = sym (demand1.untouched c l m r e).value
+  value-left (Ok tt) e = refl
+  value-left (Err r) e = sym (demand1.untouched c l m r e).value
 
   memory-left : (v : Verdict) → (perform c l m).verdict ≡ v → on_accept v m (perform c l m).memory ≡ (perform c l m).memory
-  memory-left Accepted e = refl
-  memory-left (Refused r) e = sym (demand1.untouched c l m r e).memory
+  memory-left (Ok tt) e = refl
+  memory-left (Err r) e = sym (demand1.untouched c l m r e).memory
 
   image-left : (v : Verdict) {s : List ℕ} → (perform c l m).verdict ≡ v → s ≡ ledger_image.put l
       → on_accept v s (ledger_image.put (perform c l m).ledger) ≡ ledger_image.put (perform c l m).ledger
-  image-left Accepted e g = refl
-  image-left (Refused r) e g = g ∙ ap ledger_image.put (sym ((demand1.untouched c l m r e).ledger ∙ k))
+  image-left (Ok tt) e g = refl
+  image-left (Err r) e g = g ∙ ap ledger_image.put (sym ((demand1.untouched c l m r e).ledger ∙ k))
 
 -- ---- a board asks or gives back
 module _ (demand1 : Demand1) (laws : RoundTrips ledger_image) (c : LedgerCall) (m : List ℕ) {t : LedgerOutput} {s s' m' : List ℕ}
@@ -116,8 +116,8 @@ module _ (l : Ledger) (m : List ℕ) where
 -- ---- opening
 opened-stands : (v : Verdict) (l : Ledger) {s' : List ℕ} → ledger_image.Fit l → s' ≡ on_accept v (replicate 16 0) (ledger_image.put l)
     → Stands (on_accept v no-ledger (ledger l)) s'
-opened-stands Accepted l f g = stored f g
-opened-stands (Refused r) l f g = zeros g
+opened-stands (Ok tt) l f g = stored f g
+opened-stands (Err r) l f g = zeros g
 
 opening-follows : (first size : ℕ) (x : Lent) (t : LedgerOutput) (y : Lent) → length x.image ≡ 16 → Opened first size x t y
     → Came (opened_with (opened first size x.memory) x.memory) t y.image y.memory

@@ -1,5 +1,7 @@
 -- One call from C does to the image what the node's own call does to the node: the node is loaded as it was stored, and has an image again
 -- after every call. Zeros are no image, so every call but a make is RANGE on them.
+use Rattle.std.specs.Prelude.{Result, Ok, Err}
+use Rattle.refusal.specs.declared.Refusal.{Refusal}
 use Prim.Native.Nat.{ℕ, zero, suc}
 use mathlib.Core.Path.{◌≡◌, refl, ap, ap₂, sym, ◌∙◌, subst}
 use mathlib.Core.Bool.{Bool, true, false, ◌&&◌}
@@ -10,8 +12,7 @@ use lib.Dec.{leb}
 use lib.ListN.{length, replicate}
 use Rattle.refusal.specs.Verdict.{verdict_number}
 use Rattle.refusal.specs.declared.Refusal.TheVariants.{Range}
-use Rattle.refusal.specs.declared.Verdict.{Verdict}
-use Rattle.refusal.specs.declared.Verdict.TheVariants.{Accepted, Refused}
+use Rattle.refusal.specs.Verdict.{Verdict}
 use Rattle.image.specs.Effects.{on_accept, checked_first}
 use Rattle.image.proofs.Lent.{then-not, then-so}
 use Rattle.image.specs.Part.{RoundTrips, is_image}
@@ -49,10 +50,10 @@ seen h s (stored f e) = e
 seen h s (zeros e) = e
 
 left-same : {A : Type 0} (v : Verdict) (x : A) → on_accept v x x ≡ x
-left-same Accepted x = refl
-left-same (Refused k) x = refl
+left-same (Ok tt) x = refl
+left-same (Err k) x = refl
 
-range-left : {A : Type 0} (v : Verdict) (before after : A) {x : A} → v ≡ Refused Range → x ≡ on_accept v before after → x ≡ before
+range-left : {A : Type 0} (v : Verdict) (before after : A) {x : A} → v ≡ Err Range → x ≡ on_accept v before after → x ≡ before
 range-left v b a e h = h ∙ ap (λ (u : Verdict). on_accept u b a) e
 
 told-as : (t : NodeOutput) {n v : ℕ} {w d : List ℕ} → t.number ≡ n → t.value ≡ v → t.struct ≡ w → t.lent ≡ d → t ≡ node_output n v w d
@@ -69,28 +70,28 @@ empty-value (sending type) = refl
 empty-value (receiving type identifier) = refl
 empty-value (reporting type identifier) = refl
 
-due-struct : (d : Due) → struct_of (due_object d) ≡ []
-due-struct (due.Refused k) = refl
-due-struct due.NotYet = refl
-due-struct due.SendAgain = refl
-due-struct due.GaveUp = refl
+due-struct : (d : Result Due Refusal) → struct_of (due_object d) ≡ []
+due-struct (Err k) = refl
+due-struct (Ok due.NotYet) = refl
+due-struct (Ok due.SendAgain) = refl
+due-struct (Ok due.GaveUp) = refl
 
-holding-struct : (h : LeaseStatus) → struct_of (holding_object h) ≡ []
-holding-struct (holding.Refused k) = refl
-holding-struct holding.Valid = refl
-holding-struct holding.Expired = refl
+holding-struct : (h : Result LeaseStatus Refusal) → struct_of (holding_object h) ≡ []
+holding-struct (Err k) = refl
+holding-struct (Ok holding.Valid) = refl
+holding-struct (Ok holding.Expired) = refl
 
-change-struct : (h : Change) → struct_of (change_object h) ≡ []
-change-struct (change.Refused k) = refl
-change-struct change.Switched = refl
-change-struct change.Kept = refl
+change-struct : (h : Result Change Refusal) → struct_of (change_object h) ≡ []
+change-struct (Err k) = refl
+change-struct (Ok change.Switched) = refl
+change-struct (Ok change.Kept) = refl
 
 -- ---- a call that finds none
 module _ (c : NodeCall) (s : List ℕ) (e : s ≡ replicate 878 0) where
   none : is_image node_image s ≡ false
   none = ap (is_image node_image) e
 
-  none-verdict : call_verdict c s ≡ Refused Range
+  none-verdict : call_verdict c s ≡ Err Range
   none-verdict = ap (λ (b : Bool). checked_first b (performed_in c s).verdict) none
 
   module _ (t : NodeOutput) (s' : List ℕ) where
@@ -154,8 +155,8 @@ asks (suc (suc f)) role has x = for-none (rw (lt-leb (suc (suc f)) 1 (omega arit
 
 made-stands : (v : Verdict) (n : Node) (s' : List ℕ) → node_image.Fit n → s' ≡ on_accept v (replicate 878 0) (node_image.put n)
     → Stands (on_accept v no_node (node n)) s'
-made-stands Accepted n s' f e = stored f e
-made-stands (Refused k) n s' f e = zeros e
+made-stands (Ok tt) n s' f e = stored f e
+made-stands (Err k) n s' f e = zeros e
 
 -- what a make comes to, where it asks for m
 abbrev MadeSo : ℕ → List ℕ → MakeResult → Type 0
@@ -193,17 +194,17 @@ module _ (demand1 : Demand1) (follow : CallsFit) (lawful : RoundTrips node_image
     call-so = ap (λ (b : Bool). checked_first b (performed_in c s).verdict) is ∙ verdict-so
 
     value-left : (v : Verdict) → (perform c n).verdict ≡ v → on_accept v 0 (value_of (perform c n).object) ≡ value_of (perform c n).object
-    value-left Accepted h = refl
-    value-left (Refused k) h = sym (ap value_of (demand1.calls c n k h).object ∙ empty-value c)
+    value-left (Ok tt) h = refl
+    value-left (Err k) h = sym (ap value_of (demand1.calls c n k h).object ∙ empty-value c)
 
     image-left : (v : Verdict) → (perform c n).verdict ≡ v
         → on_accept v s (node_image.put (perform c n).node) ≡ node_image.put (perform c n).node
-    image-left Accepted h = refl
-    image-left (Refused k) h = e ∙ ap node_image.put (sym (demand1.calls c n k h).node)
+    image-left (Ok tt) h = refl
+    image-left (Err k) h = e ∙ ap node_image.put (sym (demand1.calls c n k h).node)
 
     lent-left : (v : Verdict) → (perform c n).verdict ≡ v → on_accept v (lent_to c) (perform c n).lent ≡ (perform c n).lent
-    lent-left Accepted h = refl
-    lent-left (Refused k) h = sym (demand1.calls c n k h).lent
+    lent-left (Ok tt) h = refl
+    lent-left (Err k) h = sym (demand1.calls c n k h).lent
 
     told-value : {r v : ℕ} → Tells c s r v → v ≡ value_of (perform c n).object
     told-value d =

@@ -14,7 +14,7 @@ use Rattle.lemmas.specs.lists.TableLemmas.{length-table}
 use Rattle.join_proxy.specs.Body.{number_of, nonce_with}
 use Rattle.join_proxy.specs.Judging.{nobody, is_fresh, pledge_in, judge_text, judge_plan, opening, judge_body}
 use Rattle.join_proxy.specs.declared.judging.JudgeResult.{JudgeResult}
-use Rattle.join_proxy.specs.declared.proxy.Issued.{Issued}
+use Rattle.join_proxy.specs.Issued.{Issued}
 use Rattle.join_proxy.specs.declared.proxy.Proxy.{Proxy}
 use Rattle.state_image.specs.Proxy.{proxy_image, pledge_image}
 use Rattle.pothatch_laws.proofs.Cases.{either}
@@ -63,6 +63,6 @@ pub judged-fits : CcmLaws → (p : Proxy) (body : List ℕ) → proxy_image.Fit 
 unfolding judge_body
 judged-fits ccm p body f b =
     either JudgedFits (eqb (length body) 31)
-    (λ _. plan-fits p.issued (number_of (take 4 body)) (opening p body)
+    (λ _. plan-fits p.next (number_of (take 4 body)) (opening p body)
     (λ t e. ccm.opened-bytes p.key (nonce_with (take 4 body)) [] (drop 4 body) t 19 f.0.1 (dropped 4 body b) e))
     (λ _. nobody-fits)

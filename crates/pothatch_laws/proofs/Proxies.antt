@@ -1,5 +1,6 @@
 -- One call from C does to the image what the proxy's own call does to the proxy: it is loaded as it was stored, and its count of issued
 -- numbers has an image again after every call. Zeros are no image, so every call but a make is RANGE on them.
+use Rattle.std.specs.Prelude.{Ok, Err, None, Some}
 use Prim.Native.Nat.{ℕ, ◌+◌, ◌<◌}
 use mathlib.Core.Path.{◌≡◌, refl, ap, ap₂, sym, ◌∙◌, subst}
 use mathlib.Core.Bool.{Bool, true, false, cond, ◌&&◌, and-false}
@@ -12,8 +13,7 @@ use Rattle.lemmas.specs.logic.Tests.{both}
 use Rattle.refusal.specs.Refusal.{Numbered}
 use Rattle.refusal.specs.Verdict.{verdict_number}
 use Rattle.refusal.specs.declared.Refusal.TheVariants.{Range}
-use Rattle.refusal.specs.declared.Verdict.{Verdict}
-use Rattle.refusal.specs.declared.Verdict.TheVariants.{Accepted, Refused}
+use Rattle.refusal.specs.Verdict.{Verdict}
 use Rattle.image.specs.Effects.{on_accept, checked_first, ResultSpec}
 use Rattle.image.specs.Part.{AllBytes, RoundTrips, is_image}
 use Rattle.aes_ccm.specs.Plan as plan
@@ -26,8 +26,7 @@ use Rattle.join_proxy.specs.Issuing.{raised, raised_from, issue_plan, after_issu
 use Rattle.join_proxy.specs.Judging.{judge_body}
 use Rattle.join_proxy.specs.Keys.{fresh, set_key}
 use Rattle.join_proxy.specs.Laws.{ProxyLaws}
-use Rattle.join_proxy.specs.declared.proxy.Issued.{Issued}
-use Rattle.join_proxy.specs.declared.proxy.Issued.TheVariants.{Count, All}
+use Rattle.join_proxy.specs.Issued.{Issued}
 use Rattle.join_proxy.specs.declared.proxy.SetKeyResult.{SetKeyResult}
 use Rattle.join_proxy.specs.declared.proxy.Proxy.{Proxy}
 use Rattle.state_image.specs.Proxy as state
@@ -63,7 +62,7 @@ fresh-fits key l b = ((l, b), omega arith)
 
 -- what setting a key answers, by whether it is the key in use
 abbrev keyed : Bool → Proxy → List ℕ → SetKeyResult
-keyed in_use p key = cond in_use (record { verdict = Refused Range; proxy = p }) (record { verdict = Accepted; proxy = fresh key })
+keyed in_use p key = cond in_use (record { verdict = Err Range; proxy = p }) (record { verdict = Ok tt; proxy = fresh key })
 
 keyed-fits : (b : Bool) (p : Proxy) (key : List ℕ) → length key ≡ 16 → AllBytes key → proxy_image.Fit p
     → proxy_image.Fit (keyed b p key).proxy
@@ -76,23 +75,23 @@ keyed-left true p key s e = e
 keyed-left false p key s e = refl
 
 settled-proxy : (v : Verdict) (p : Proxy) (key : List ℕ) (h : History) → (settled v p key h).proxy ≡ p
-settled-proxy Accepted p key h = refl
-settled-proxy (Refused k) p key h = refl
+settled-proxy (Ok tt) p key h = refl
+settled-proxy (Err k) p key h = refl
 
 raised-held : (n : ℕ) → n < 4294967296 → state.Held (raised n)
 raised-held n h = by-test (eqb n 4294967295) refl
   where
-    by-test : (b : Bool) → eqb n 4294967295 ≡ b → state.Held (cond b All (Count (n + 1)))
+    by-test : (b : Bool) → eqb n 4294967295 ≡ b → state.Held (cond b None (Some (n + 1)))
     by-test true e = refl
     by-test false e = let q : n ≡ 4294967295 → ⊥ = eqb-false n 4294967295 e in omega arith
 
 raised-from-held : (i : Issued) → state.Held i → state.Held (raised_from i)
-raised-from-held (Count n) h = raised-held n h
-raised-from-held All h = h
+raised-from-held (Some n) h = raised-held n h
+raised-from-held None h = h
 
 issue-fits : (p : Proxy) (q : Plan) → proxy_image.Fit p → proxy_image.Fit (after_issue q p)
 issue-fits p (refuse k) f = f
-issue-fits p (emit b) f = (f.0, raised-from-held p.issued f.1)
+issue-fits p (emit b) f = (f.0, raised-from-held p.next f.1)
 
 issue-left : (q : Plan) (p : Proxy) (s : List ℕ) → s ≡ proxy_image.put p
     → on_accept (plan_verdict q) s (proxy_image.put (after_issue q p)) ≡ proxy_image.put (after_issue q p)
@@ -123,7 +122,7 @@ judge-hands : {s body w : List ℕ} {r : ℕ} {w' : List ℕ} → JudgesIn s bod
 judge-hands d = record { number = d.number; result = d.pledge }
 
 make-hands : {key s : List ℕ} {r : ℕ} {s' : List ℕ} → Makes key s r s'
-    → ResultSpec 26 (is_key key) Accepted (proxy_image.put (fresh key)) s r s'
+    → ResultSpec 26 (is_key key) (Ok tt) (proxy_image.put (fresh key)) s r s'
 make-hands d = record { number = d.number; result = d.proxy }
 
 -- ---- where the call has its lengths, and where not
@@ -165,7 +164,7 @@ module _ (lawful : RoundTrips proxy_image) (h : History) (s : List ℕ) (f : pro
         (subst proxy_image.Fit goes (keyed-fits (same p.key key) p key (eqb-true (length key) 16 g) d.bytes f))
         (image ∙ ap proxy_image.put goes))
     set-step false g =
-        let so : key_verdict s key ≡ Refused Range =
+        let so : key_verdict s key ≡ Err Range =
         ap (λ (b : Bool). checked_first (b && is_image proxy_image s) (set_key (proxy_image.get s) key).verdict) g in
         step-unfit (setting key) h g (set_told d so) (stays (set-left d so))
 
@@ -214,7 +213,7 @@ module _ (s : List ℕ) (e : s ≡ replicate 26 0) where
 
   none-step : (c : OwnCall) (t : ProxyOutput) (s' : List ℕ) → OwnDid c s t s' → Step tells after Stands (calling c) no-proxy t s'
   none-step (setting key) t s' d =
-      let so : key_verdict s key ≡ Refused Range =
+      let so : key_verdict s key ≡ Err Range =
       ap (λ (b : Bool). checked_first b (set_key (proxy_image.get s) key).verdict) (neither (is_key key)) in
       record { same = set_told d so; stands = zeros (set-left d so ∙ e) }
   none-step (issuing interface port token d) t s' w =

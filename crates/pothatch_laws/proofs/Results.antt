@@ -1,5 +1,6 @@
 -- What is read of bytes fits, and what stands in a good image fits; each call makes its result of such values and of the empty ones, which
 -- are what is read of no bytes.
+use Rattle.std.specs.Prelude.{None, Some}
 use Prim.Native.Nat.{ℕ}
 use mathlib.Core.Bool.{true, false, ◌&&◌}
 use mathlib.Core.List.{List, []}
@@ -32,8 +33,7 @@ use Rattle.cojp_serial.specs.declared.state.PartDecision.{PartDecision}
 use Rattle.cojp_serial.specs.declared.state.PartDecision.TheVariants.{Outside, Overrun, Ended, Open}
 use Rattle.join_proxy.specs.Issuing.{raised_from, after_issue}
 use Rattle.join_proxy.specs.Keys.{fresh, set_key}
-use Rattle.join_proxy.specs.declared.proxy.Issued.{Issued}
-use Rattle.join_proxy.specs.declared.proxy.Issued.TheVariants.{Count, All}
+use Rattle.join_proxy.specs.Issued.{Issued}
 use Rattle.join_proxy.specs.declared.proxy.SetKeyResult.{SetKeyResult}
 use Rattle.join_proxy.specs.declared.proxy.Proxy.{Proxy}
 use Rattle.node_call_laws.specs.Fits.{CallsFit}
@@ -141,13 +141,13 @@ keyed-fits : (p : Proxy) (key : List ℕ) → proxy_image.Fit p → IsKey key �
 keyed-fits p key f k = either (λ (x : SetKeyResult). proxy_image.Fit x.proxy) (same p.key key) (λ _. f) (λ _. fresh-fits key k)
 
 raised-fits : (i : Issued) → Held i → Held (raised_from i)
-raised-fits (Count n) h =
+raised-fits (Some n) h =
     either Held (eqb n 4294967295) (λ _. refl) (λ e. let less : ¬ (n ≡ 4294967295) = eqb-false n 4294967295 e in omega arith)
-raised-fits All h = refl
+raised-fits None h = refl
 
 issued-fits : (plan : Plan) (p : Proxy) → proxy_image.Fit p → proxy_image.Fit (after_issue plan p)
 issued-fits (refuse k) p f = f
-issued-fits (emit body) p f = (f.0, raised-fits p.issued f.1)
+issued-fits (emit body) p f = (f.0, raised-fits p.next f.1)
 
 -- ---- arrivals: whatever the end reads
 ended-fits : (s m : List ℕ) → RoundTrips serial_image → Holds serial_image s

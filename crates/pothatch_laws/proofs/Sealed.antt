@@ -1,4 +1,5 @@
 -- The numbers that C's answers show are those of the bodies in the proxy's history, and no two of those are the same.
+use Rattle.std.specs.Prelude.{Ok, Err, None, Some}
 use Prim.Native.Nat.{ℕ, zero, suc, ◌<◌, ◌≤◌}
 use mathlib.Core.Path.{◌≡◌, refl, ap, sym, ◌∙◌}
 use mathlib.Core.Bool.{Bool, true, false, cond}
@@ -12,8 +13,7 @@ use Rattle.refusal.specs.Refusal as refusal
 use Rattle.refusal.specs.Refusal.{Numbered}
 use Rattle.refusal.specs.declared.Refusal.{Refusal}
 use Rattle.refusal.specs.declared.Refusal.TheVariants.{Range, Room, Spent}
-use Rattle.refusal.specs.declared.Verdict.{Verdict}
-use Rattle.refusal.specs.declared.Verdict.TheVariants.{Accepted, Refused}
+use Rattle.refusal.specs.Verdict.{Verdict}
 use Rattle.refusal.specs.Verdict.{verdict_number}
 use Rattle.aes_ccm.specs.Plan as plan
 use Rattle.aes_ccm.specs.Plan.{Plan, refuse, emit, answer, number_in}
@@ -23,8 +23,7 @@ use Rattle.join_proxy.specs.History.{Sent, History, sent_at, with_sent, called, 
 use Rattle.join_proxy.specs.Issuing.{issue_plan, numbered}
 use Rattle.join_proxy.specs.Keys.{set_key}
 use Rattle.join_proxy.specs.Laws.{ProxyLaws}
-use Rattle.join_proxy.specs.declared.proxy.Issued.{Issued}
-use Rattle.join_proxy.specs.declared.proxy.Issued.TheVariants.{Count, All}
+use Rattle.join_proxy.specs.Issued.{Issued}
 use Rattle.join_proxy.specs.declared.proxy.Proxy.{Proxy}
 use Rattle.pothatch_laws.specs.Proxy.{OwnCall, setting, issuing, judging, ProxyOutput, proxy_output, proxy, fit, call_of}
 use Rattle.pothatch_laws.specs.Proxy.{struct_of, lent_after, ranged, tells, after, calls_of, all_own, sealed_by, sealed_since}
@@ -60,12 +59,12 @@ unfolding body_of
 body-long key n text p e = let q : length (body_of key (four n) text) ≡ length p = cc in omega (arith, q)
 
 numbered-long : (key : List ℕ) (i : Issued) (text : List ℕ) (room : ℕ) (p : List ℕ) → numbered key i text room ≡ emit p → 4 ≤ length p
-numbered-long key (Count n) text room p e = by-test (ltb room 31) e
+numbered-long key (Some n) text room p e = by-test (ltb room 31) e
   where
     by-test : (b : Bool) → cond b (refuse Room) (emit (body_of key (four n) text)) ≡ emit p → 4 ≤ length p
     by-test true h = unlike Room p h
     by-test false h = body-long key n text p h
-numbered-long key All text room p e = unlike Spent p e
+numbered-long key None text room p e = unlike Spent p e
 
 plan-long : (y : Proxy) (interface : List ℕ) (port : ℕ) (token : List ℕ) (room : ℕ) (p : List ℕ)
     → issue_plan y interface port token room ≡ emit p → 4 ≤ length p
@@ -73,9 +72,9 @@ unfolding issue_plan
 plan-long y interface port token room p e = by-test (ltb 8 (length token)) e
   where
     by-test : (b : Bool)
-        → cond b (refuse Range) (numbered y.key y.issued (pledge_text interface port token) room) ≡ emit p → 4 ≤ length p
+        → cond b (refuse Range) (numbered y.key y.next (pledge_text interface port token) room) ≡ emit p → 4 ≤ length p
     by-test true h = unlike Range p h
-    by-test false h = numbered-long y.key y.issued (pledge_text interface port token) room p h
+    by-test false h = numbered-long y.key y.next (pledge_text interface port token) room p h
 
 -- ---- one call: what its answer adds is what it adds to the history
 module _ (numbers : Numbered) where
@@ -84,8 +83,8 @@ module _ (numbers : Numbered) where
 
   set-sealed : (v : Verdict) (y : Proxy) (key : List ℕ) (h : History)
       → cond (eqb (verdict_number v) 0) [] (numbers_of h.sent) ≡ numbers_of (settled v y key h).sent
-  set-sealed Accepted y key h = refl
-  set-sealed (Refused k) y key h = rw (refused-number k)
+  set-sealed (Ok tt) y key h = refl
+  set-sealed (Err k) y key h = rw (refused-number k)
 
   issue-sealed : (q : Plan) (interface : List ℕ) (port : ℕ) (token d : List ℕ) (ss : List Sent) → ((p : List ℕ) → q ≡ emit p → 4 ≤ length p)
       → cond (eqb (number_in (answer q)) 0) (numbers_of ss ++ (number_of (take 4 (plan.after q d)) ∷ [])) (numbers_of ss)

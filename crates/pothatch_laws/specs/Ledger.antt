@@ -1,10 +1,9 @@
 -- The ledger's calls from C: from an opening on, and from any image on, they answer what the ledger's own calls answer, and the struct
 -- holds the ledger after them. A refused opening leaves no ledger: then every call is RANGE until one is opened. The range in an image may
 -- be outside its limits: then too every call but an opening is RANGE, by the ledger's own answer.
-use Rattle.std.specs.Prelude.{ℕ, true, cond, List, ◌∷◌, ◌≡◌, eqb, length, replicate}
+use Rattle.std.specs.Prelude.{ℕ, true, cond, List, ◌∷◌, ◌≡◌, eqb, length, replicate, Err}
 use Rattle.refusal.specs.Verdict.{verdict_number}
 use Rattle.refusal.specs.declared.Refusal.TheVariants.{Range}
-use Rattle.refusal.specs.declared.Verdict.TheVariants.{Refused}
 use Rattle.image.specs.Effects.{on_accept}
 use Rattle.image.specs.Part.{AllBytes, is_image}
 use Rattle.address_ledger.specs.Ledger.{opened}
@@ -67,7 +66,7 @@ outcome t k = record { answer = t; kept = k }
 
 -- RANGE, and nothing moved
 abbrev pub ranged : Keeping → Outcome
-ranged k = outcome (ledger_output (verdict_number (Refused Range)) 0) k
+ranged k = outcome (ledger_output (verdict_number (Err Range)) 0) k
 
 abbrev pub opened_with : answer.OpenResult → List ℕ → Outcome
 opened_with o m = outcome (ledger_output (verdict_number o.verdict) 0) (keeping (on_accept o.verdict no-ledger (ledger o.ledger)) m)

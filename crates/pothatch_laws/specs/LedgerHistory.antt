@@ -1,12 +1,10 @@
 -- Request 1's laws for a program in C: over every list of calls on structs of one range, whatever free counts and summaries the program
 -- finds or puts in them, and on one memory, which only these calls write. Who holds which address is told from the calls and their answers.
-use Rattle.std.specs.Prelude.{ℕ, ◌+◌, ◌*◌, ◌<◌, true, cond, ◌≡◌, eqb, length, get_or, replicate}
+use Rattle.std.specs.Prelude.{ℕ, ◌+◌, ◌*◌, ◌<◌, true, cond, ◌≡◌, eqb, length, get_or, replicate, Ok}
 use mathlib.Core.List.{List, [], ◌∷◌, ◌++◌, Memᴰ}
-use Rattle.refusal.specs.declared.Verdict.TheVariants.{Accepted}
 use Rattle.image.specs.Part.{is_image}
 use Rattle.address_slots.specs.Slot.{slots, count_free}
 use Rattle.address_ledger.specs.range.Range.{judged, counted}
-use Rattle.address_ledger.specs.declared.answer.AddressAnswer.TheVariants.{Address}
 use Rattle.address_ledger_laws.specs.Demand1.{LedgerCall, asking, returning}
 use Rattle.address_ledger_laws.specs.History.{Holding, listed, address_of, after_ask, after_give}
 use Rattle.state_image.specs.Ledger.{ledger_image}
@@ -28,8 +26,8 @@ call_of (gives b) = returning b
 
 -- the holdings after a call that answered the number r and the value v: a refusal changes none
 abbrev pub held_after : BoardCall → ℕ → ℕ → List Holding → List Holding
-held_after (asks b) r v hs = cond (eqb r 0) (after_ask b (Address v) hs) hs
-held_after (gives b) r v hs = cond (eqb r 0) (after_give b (Address v) hs) hs
+held_after (asks b) r v hs = cond (eqb r 0) (after_ask b (Ok v) hs) hs
+held_after (gives b) r v hs = cond (eqb r 0) (after_give b (Ok v) hs) hs
 
 -- the calls were made one after the other, each on a struct of the range and on the memory that the call before left: the memory m and the
 -- holdings hs before them, z and ks afterwards
@@ -41,7 +39,7 @@ pub data Shift (first size : ℕ) : List BoardCall → List ℕ → List Holding
 
 -- memory without a mark 1 that has room for the range
 pub record FreshMemory (first size : ℕ) (m : List ℕ) : Type 0 where
-  pub accepted : Accepted ≡ judged first size (length m)
+  pub accepted : Ok tt ≡ judged first size (length m)
   pub fresh : (k : ℕ) → k < counted first size → get_or m (9 * k) 0 ≡ 1 → ⊥
 
 -- what holds after a shift that left the memory m and the holdings hs

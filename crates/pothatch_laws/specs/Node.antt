@@ -1,10 +1,9 @@
 -- The calls of a node from C: makes and the node's own calls, in any order. From a make on, and from any image on, they answer what the
 -- node's own calls answer, and the struct holds the node after them. A refused make leaves no node: then every call is RANGE until one is
 -- made.
-use Rattle.std.specs.Prelude.{ℕ, zero, suc, true, List, [], ◌∷◌, ◌≡◌, length, replicate}
+use Rattle.std.specs.Prelude.{ℕ, zero, suc, true, List, [], ◌∷◌, ◌≡◌, length, replicate, Err}
 use Rattle.refusal.specs.Verdict.{verdict_number}
 use Rattle.refusal.specs.declared.Refusal.TheVariants.{Range}
-use Rattle.refusal.specs.declared.Verdict.TheVariants.{Refused}
 use Rattle.image.specs.Effects.{on_accept}
 use Rattle.image.specs.Part.{AllBytes, is_image}
 use Rattle.cojp.specs.Octets.{copied_from}
@@ -133,7 +132,7 @@ told_of c p =
 
 abbrev pub tells : Call → Held → NodeOutput
 tells (making form role has x) h = node_output (verdict_number (asked form role has x).verdict) 0 [] x
-tells (calling c) no_node = node_output (verdict_number (Refused Range)) 0 (replicate (struct_size c) 0) (lent_to c)
+tells (calling c) no_node = node_output (verdict_number (Err Range)) 0 (replicate (struct_size c) 0) (lent_to c)
 tells (calling c) (node n) = told_of c (perform c n)
 
 abbrev pub after : Call → Held → Held

@@ -1,10 +1,9 @@
 -- The calls of a join proxy from C: makes and the proxy's own calls, in any order. From a make on, and from any image on, they answer what
 -- the proxy's own calls answer, and the struct holds the proxy after them. A refused make leaves no proxy: then every call is RANGE until
 -- one is made.
-use Rattle.std.specs.Prelude.{ℕ, ◌<◌, Bool, true, cond, List, [], ◌∷◌, ◌++◌, ◌≡◌, eqb, length, get_or, take, replicate}
+use Rattle.std.specs.Prelude.{ℕ, ◌<◌, Bool, true, cond, List, [], ◌∷◌, ◌++◌, ◌≡◌, eqb, length, get_or, take, replicate, Err}
 use Rattle.refusal.specs.Verdict.{verdict_number}
 use Rattle.refusal.specs.declared.Refusal.TheVariants.{Range}
-use Rattle.refusal.specs.declared.Verdict.TheVariants.{Refused}
 use Rattle.image.specs.Effects.{on_accept}
 use Rattle.image.specs.Part.{AllBytes, is_image}
 use Rattle.aes_ccm.specs.Plan as plan
@@ -108,12 +107,12 @@ lent_after (judging body) h = body
 
 -- RANGE: no pledge, and the lent bytes as they were
 abbrev pub ranged : OwnCall → ProxyOutput
-ranged (setting key) = proxy_output (verdict_number (Refused Range)) [] key
-ranged (issuing interface port token d) = proxy_output (verdict_number (Refused Range)) [] d
-ranged (judging body) = proxy_output (verdict_number (Refused Range)) (replicate 21 0) body
+ranged (setting key) = proxy_output (verdict_number (Err Range)) [] key
+ranged (issuing interface port token d) = proxy_output (verdict_number (Err Range)) [] d
+ranged (judging body) = proxy_output (verdict_number (Err Range)) (replicate 21 0) body
 
 abbrev pub tells : Call → Held → ProxyOutput
-tells (making key) h = proxy_output (cond (is_key key) 0 (verdict_number (Refused Range))) [] key
+tells (making key) h = proxy_output (cond (is_key key) 0 (verdict_number (Err Range))) [] key
 tells (calling c) no-proxy = ranged c
 tells (calling c) (proxy h) = cond (fit c) (proxy_output (answered (call_of c) h) (struct_of c h) (lent_after c h)) (ranged c)
 

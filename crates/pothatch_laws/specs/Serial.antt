@@ -1,10 +1,9 @@
 -- The calls from C on a payload that comes in parts: from a reset on, and from any image on, they answer what the calls on an arrival
 -- answer, and the struct holds the arrival after them. An image may say that more than 256 bytes came: then every call but a reset is
 -- RANGE, by the arrival's own answer.
-use Rattle.std.specs.Prelude.{ℕ, zero, suc, Bool, true, false, List, [], ◌∷◌, ◌≡◌, length, replicate}
+use Rattle.std.specs.Prelude.{ℕ, zero, suc, Bool, true, false, List, [], ◌∷◌, ◌≡◌, length, replicate, Err}
 use Rattle.refusal.specs.Verdict.{verdict_number}
 use Rattle.refusal.specs.declared.Refusal.TheVariants.{Range}
-use Rattle.refusal.specs.declared.Verdict.TheVariants.{Refused}
 use Rattle.image.specs.Effects.{on_accept}
 use Rattle.image.specs.Part.{AllBytes, is_image}
 use Rattle.protocol_version.specs.declared.Version.{Version}
@@ -98,7 +97,7 @@ result_of (update r) = on_accept r.verdict (replicate 570 0) (configuration_imag
 
 -- RANGE, zeros, and nothing moved where it comes to none
 abbrev pub told_by : Own → ℕ → Held → SerialOutput
-told_by none n h = serial_output (verdict_number (Refused Range)) (replicate n 0)
+told_by none n h = serial_output (verdict_number (Err Range)) (replicate n 0)
 told_by (own c) n h = serial_output (verdict_number (calls.verdict_in (calls.told c h))) (result_of (calls.told c h))
 
 abbrev pub left_by : Own → Held → Held

@@ -6,7 +6,7 @@ ghost use Rattle.protocol_version.specs.Version.{allows_additional_info, lease_u
 
 // The version that a payload or a node uses: document 004's as document 01 fixes it, or RFC 9031's (docs/RFC9031.md). A node's is fixed
 // when it is made.
-#[derive(Clone, Copy)]
+#[derive(Clone, Copy, PartialEq, Eq)]
 pub enum Version {
     Draft,
     Published,

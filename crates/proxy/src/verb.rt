@@ -1,12 +1,10 @@
 // The commands by their first words, and which words stand after each.
 use tool_text::line_error::LineError;
 use tool_text::word::Word;
-use tool_words::shape::{Kind, Shape, of_words};
+use tool_words::shape::{Kind, Shape};
 
-#[derive(Clone, Copy)]
+#[derive(Clone, Copy, PartialEq, Eq)]
 pub enum Verb {
-    // a line that is no command
-    Wrong(LineError),
     Make,
     Key,
     Issue,
@@ -17,97 +15,42 @@ pub enum Verb {
     Destination,
 }
 
-// The command that the word names.
-pub fn verb_of(word: Word) -> Verb {
-    if word.is(b"judge") {
-        return Verb::Judge;
-    }
-    if word.is(b"issue") {
-        return Verb::Issue;
-    }
-    if word.is(b"proxy") {
-        return Verb::Make;
-    }
-    if word.is(b"key") {
-        return Verb::Key;
-    }
-    of_tool(word)
-}
+impl TryFrom<Word> for Verb {
+    type Error = LineError;
 
-// A command that calls nothing of the library, or else none at all.
-fn of_tool(word: Word) -> Verb {
-    if word.is(b"show") {
-        return Verb::Show;
-    }
-    if word.is(b"issued") {
-        return Verb::Issued;
-    }
-    if word.is(b"room") {
-        return Verb::Room;
-    }
-    if word.is(b"destination") {
-        return Verb::Destination;
-    }
-    Verb::Wrong(LineError::Command)
-}
-
-pub fn shape_of(verb: Verb) -> Shape {
-    match verb {
-        Verb::Wrong(_) => of_words(0, false),
-        Verb::Make | Verb::Key => of_proxy(3, Kind::Exactly(16)),
-        Verb::Issue => of_pledge(),
-        Verb::Judge => of_body(),
-        Verb::Show => of_proxy(2, Kind::Any),
-        Verb::Issued => of_proxy(3, Kind::Number(4294967296)),
-        Verb::Room => of_room(),
-        Verb::Destination => of_words(1, false),
+    // The command that the word names.
+    fn try_from(word: Word) -> Result<Verb, LineError> {
+        match word.name() {
+            b"proxy" => Ok(Verb::Make),
+            b"key" => Ok(Verb::Key),
+            b"issue" => Ok(Verb::Issue),
+            b"judge" => Ok(Verb::Judge),
+            b"show" => Ok(Verb::Show),
+            b"issued" => Ok(Verb::Issued),
+            b"room" => Ok(Verb::Room),
+            b"destination" => Ok(Verb::Destination),
+            _ => Err(LineError::Command),
+        }
     }
 }
 
-// A proxy's number, and a second word.
-fn of_proxy(words: usize, second: Kind) -> Shape {
-    Shape {
-        words,
-        hex: false,
-        first: Kind::Number(u64::MAX),
-        second,
-        third: Kind::Any,
-        fourth: Kind::Any,
-    }
-}
+// Which proxy.
+const PROXY: Kind = Kind::Number(u64::MAX);
 
-// A proxy's number, and a pledge's interface identifier, port and token.
-fn of_pledge() -> Shape {
-    Shape {
-        words: 5,
-        hex: false,
-        first: Kind::Number(u64::MAX),
-        second: Kind::Exactly(8),
-        third: Kind::Number(65535),
-        fourth: Kind::Bytes,
-    }
-}
-
-// A proxy's number, and HEX.
-fn of_body() -> Shape {
-    Shape {
-        words: 2,
-        hex: true,
-        first: Kind::Number(u64::MAX),
-        second: Kind::Any,
-        third: Kind::Any,
-        fourth: Kind::Any,
-    }
-}
-
-// How many bytes are lent.
-fn of_room() -> Shape {
-    Shape {
-        words: 2,
-        hex: false,
-        first: Kind::Number(64),
-        second: Kind::Any,
-        third: Kind::Any,
-        fourth: Kind::Any,
+impl Verb {
+    pub fn shape(self) -> Shape {
+        let words: &'static [Kind] = match self {
+            Verb::Make | Verb::Key => &[PROXY, Kind::Exactly(16)],
+            // a pledge's interface identifier, port and token
+            Verb::Issue => &[PROXY, Kind::Exactly(8), Kind::Number(65535), Kind::Bytes],
+            Verb::Judge | Verb::Show => &[PROXY],
+            Verb::Issued => &[PROXY, Kind::Number(4294967296)],
+            Verb::Room => &[Kind::Number(64)],
+            Verb::Destination => &[],
+        };
+        Shape {
+            words,
+            hex: self == Verb::Judge,
+        }
     }
 }

@@ -1,8 +1,7 @@
 -- The calls of a join proxy from C: the proxy stands in its image.
-use Rattle.std.specs.Prelude.{ℕ, Bool, ◌&&◌, List, ◌≡◌, eqb, leb, length}
+use Rattle.std.specs.Prelude.{ℕ, Bool, ◌&&◌, List, ◌≡◌, eqb, leb, length, Ok}
 use Rattle.refusal.specs.Verdict.{verdict_number}
-use Rattle.refusal.specs.declared.Verdict.{Verdict}
-use Rattle.refusal.specs.declared.Verdict.TheVariants.{Accepted}
+use Rattle.refusal.specs.Verdict.{Verdict}
 use Rattle.aes_ccm.specs.Plan.{Plan, answer, after, number_in}
 use Rattle.image.specs.Part.{is_image}
 use Rattle.join_proxy.specs.Issuing.{issue_plan, after_issue}
@@ -14,7 +13,7 @@ use Rattle.image.specs.Effects.{on_accept, checked_first, result_bytes}
 
 -- ---- making hands back an image
 abbrev pub make_verdict : List ℕ → List ℕ → Verdict
-make_verdict key s = checked_first (eqb (length s) 26 && eqb (length key) 16) Accepted
+make_verdict key s = checked_first (eqb (length s) 26 && eqb (length key) 16) (Ok tt)
 
 pub record Makes (key s : List ℕ) (r : ℕ) (s' : List ℕ) : Type 0 where
   pub number : r ≡ verdict_number (make_verdict key s)

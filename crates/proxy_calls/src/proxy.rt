@@ -1,10 +1,8 @@
 // The join proxy.
-ghost use Rattle.std.specs.Prelude.{◌≡◌};
-ghost use Rattle.proxy_calls.specs.Proxy.{Makes, SetsKey, issue_fits, IssuesIn, JudgesIn};
+ghost use Rattle.proxy_calls.specs.Proxy.{Makes, SetsKey, IssuesIn, JudgesIn};
 
 use crate::store::{store_pledge, store_proxy};
-use aes_ccm::WriteResult;
-use image::{RANGE, array_8_at, array_16_at, clear};
+use image::{RANGE, clear};
 use join_proxy::Proxy;
 use state_image::{is_proxy, proxy_in, put_proxy};
 
@@ -15,11 +13,11 @@ pub fn proxy_make(key: &[u8], proxy: &mut [u8]) -> u32
     if proxy.len() != 26 {
         return RANGE;
     }
-    if key.len() != 16 {
+    let Ok(key) = <[u8; 16]>::try_from(key) else {
         clear(proxy);
         return RANGE;
-    }
-    put_proxy(proxy, Proxy::new(array_16_at(key, 0)));
+    };
+    put_proxy(proxy, Proxy::new(key));
     0
 }
 
@@ -27,26 +25,14 @@ pub fn proxy_make(key: &[u8], proxy: &mut [u8]) -> u32
 pub fn proxy_set_key(proxy: &mut [u8], key: &[u8]) -> u32
     ensures { SetsKey proxy.old key.now result proxy.new }
 {
-    if key.len() != 16 {
+    let Ok(key) = <[u8; 16]>::try_from(key) else {
         return RANGE;
-    }
+    };
     if !is_proxy(proxy) {
         return RANGE;
     }
-    let done = proxy_in(proxy).set_key(array_16_at(key, 0));
-    let verdict = done.verdict;
-    let after = done.proxy;
-    store_proxy(verdict, after, proxy)
-}
-
-// Whether the interface identifier has eight bytes, and the port two.
-fn issue_fits(interface: &[u8], port: u64) -> bool
-    ensures { result ≡ issue_fits interface.now port }
-{
-    if interface.len() != 8 {
-        return false;
-    }
-    port <= 65535
+    let done = proxy_in(proxy).set_key(key);
+    store_proxy(done.verdict, done.proxy, proxy)
 }
 
 // Issues the option body for a pledge's interface identifier, port and token.
@@ -60,22 +46,22 @@ pub fn proxy_issue(
     ensures { IssuesIn proxy.old interface.now port token.now dst.old result
         proxy.new dst.new }
 {
-    if !issue_fits(interface, port) {
+    let Ok(interface) = <[u8; 8]>::try_from(interface) else {
         return RANGE;
-    }
+    };
+    let Ok(port) = u16::try_from(port) else {
+        return RANGE;
+    };
     if !is_proxy(proxy) {
         return RANGE;
     }
-    let number = port as u16;
-    let done = proxy_in(proxy).issue(array_8_at(interface, 0), number, token, dst);
-    let written = done.written;
-    let after = done.proxy;
-    match written {
-        WriteResult::Length(_) => {
-            put_proxy(proxy, after);
+    let done = proxy_in(proxy).issue(interface, port, token, dst);
+    match done.written {
+        Ok(_) => {
+            put_proxy(proxy, done.proxy);
             0
         }
-        WriteResult::Refused(why) => why.number() as u32,
+        Err(why) => why.number() as u32,
     }
 }
 
@@ -91,7 +77,5 @@ pub fn proxy_judge(proxy: &[u8], body: &[u8], pledge: &mut [u8]) -> u32
         return RANGE;
     }
     let judged = proxy_in(proxy).judge(body);
-    let verdict = judged.verdict;
-    let named = judged.pledge;
-    store_pledge(verdict, named, pledge)
+    store_pledge(judged.verdict, judged.pledge, pledge)
 }

@@ -1,18 +1,18 @@
 -- Lemmas: nothing here has to be believed.
 -- No verdict is both, and a refusal's number is not 0.
-use Rattle.std.specs.Prelude.{ℕ, ◌≡◌, refl, List, ◌∷◌}
+use Rattle.std.specs.Prelude.{ℕ, ◌≡◌, refl, List, ◌∷◌, Ok, Err}
 use Rattle.std.proofs.Common.{arith, sym}
 use Rattle.refusal.specs.Refusal.{number_of}
 use Rattle.refusal.specs.Order.{in_order}
+use Rattle.refusal.specs.Verdict.{Verdict}
 use Rattle.refusal.specs.declared.Refusal.{Refusal}
 use Rattle.refusal.specs.declared.Refusal.TheVariants.{Cut, Form, Deep, Extra, «Type», Twice, Keys, Role, Owed, Clash, Clock, Room}
 use Rattle.refusal.specs.declared.Refusal.TheVariants.{Range, Silent, Long, Phase, Full, Unknown, Loose, Seal, Spent, Stale}
-use Rattle.refusal.specs.declared.Verdict.TheVariants.{Accepted, Refused}
 
-pub refused-not : {A : Type 0} (k : Refusal) → Refused k ≡ Accepted → A
+pub refused-not : {A : Type 0} (k : Refusal) → ◌≡◌ {A = Verdict} (Err k) (Ok tt) → A
 refused-not k e = absurd (let z : ◌≡◌ {A = ℕ} 0 1 = cc in omega arith)
 
-pub accepted-not : {A : Type 0} (k : Refusal) → Accepted ≡ Refused k → A
+pub accepted-not : {A : Type 0} (k : Refusal) → ◌≡◌ {A = Verdict} (Ok tt) (Err k) → A
 accepted-not k e = refused-not k (sym e)
 
 -- a refusal's number is not 0

@@ -1,15 +1,23 @@
 -- What a verdict says in the documents' numbers.
-use Rattle.std.specs.Prelude.{ℕ, Bool, true, false}
+use Rattle.refusal.specs.declared.Refusal.{Refusal}
+use Rattle.std.specs.Prelude.{ℕ, Bool, true, false, Ok, Err, Result}
 use Rattle.refusal.specs.Refusal.{number_of}
-use Rattle.refusal.specs.declared.Verdict.{Verdict}
-use Rattle.refusal.specs.declared.Verdict.TheVariants.{Accepted, Refused}
+
+-- what a call that hands back an object beside it answers
+abbrev pub Verdict : Type 0
+Verdict = Result (Unit {0}) Refusal
 
 -- the refusal's number, 0 where there is none
 abbrev pub verdict_number : Verdict → ℕ
-verdict_number Accepted = 0
-verdict_number (Refused k) = number_of k
+verdict_number (Ok tt) = 0
+verdict_number (Err k) = number_of k
 
 -- it is no refusal
 abbrev pub is_accepted : Verdict → Bool
-is_accepted Accepted = true
-is_accepted (Refused k) = false
+is_accepted (Ok tt) = true
+is_accepted (Err k) = false
+
+-- an answer without its value
+abbrev pub verdict_of : {A : Type 0} → Result A Refusal → Verdict
+verdict_of (Ok x) = Ok tt
+verdict_of (Err k) = Err k

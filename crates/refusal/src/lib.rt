@@ -4,39 +4,33 @@
 
 ghost use Rattle.std.specs.Prelude.{◌≡◌};
 ghost use Rattle.refusal.specs.Refusal.{number_of, name_of, Numbered};
+ghost use Rattle.refusal.specs.Verdict.{verdict_of};
 
-// Why a call was refused, in the order of the documents' numbers.
-#[derive(Clone, Copy)]
+// Why a call was refused, with the documents' numbers.
+#[derive(Clone, Copy, PartialEq, Eq)]
 pub enum Refusal {
-    Cut,
-    Form,
-    Deep,
-    Extra,
-    Type,
-    Twice,
-    Keys,
-    Role,
-    Owed,
-    Clash,
-    Clock,
-    Room,
-    Range,
-    Silent,
-    Long,
-    Phase,
-    Full,
-    Unknown,
-    Loose,
-    Seal,
-    Spent,
-    Stale,
-}
-
-// What a call that hands back an object beside it answers.
-#[derive(Clone, Copy)]
-pub enum Verdict {
-    Accepted,
-    Refused(Refusal),
+    Cut = 1,
+    Form = 2,
+    Deep = 3,
+    Extra = 4,
+    Type = 5,
+    Twice = 6,
+    Keys = 7,
+    Role = 8,
+    Owed = 9,
+    Clash = 10,
+    Clock = 11,
+    Room = 12,
+    Range = 13,
+    Silent = 14,
+    Long = 15,
+    Phase = 16,
+    Full = 17,
+    Unknown = 18,
+    Loose = 19,
+    Seal = 20,
+    Spent = 21,
+    Stale = 22,
 }
 
 // The names in the order of their numbers, each filled up with zeros.
@@ -70,30 +64,7 @@ impl Refusal {
     pub fn number(self) -> u8
         ensures { result ≡ number_of self }
     {
-        match self {
-            Refusal::Cut => 1,
-            Refusal::Form => 2,
-            Refusal::Deep => 3,
-            Refusal::Extra => 4,
-            Refusal::Type => 5,
-            Refusal::Twice => 6,
-            Refusal::Keys => 7,
-            Refusal::Role => 8,
-            Refusal::Owed => 9,
-            Refusal::Clash => 10,
-            Refusal::Clock => 11,
-            Refusal::Room => 12,
-            Refusal::Range => 13,
-            Refusal::Silent => 14,
-            Refusal::Long => 15,
-            Refusal::Phase => 16,
-            Refusal::Full => 17,
-            Refusal::Unknown => 18,
-            Refusal::Loose => 19,
-            Refusal::Seal => 20,
-            Refusal::Spent => 21,
-            Refusal::Stale => 22,
-        }
+        self as u8
     }
 
     // The name that document 01 or 02 gives the refusal, in ASCII, and zeros after it.
@@ -102,6 +73,16 @@ impl Refusal {
     {
         let place = self.number() - 1;
         NAMES[place as usize]
+    }
+}
+
+// An answer without its value: accepted, or why not.
+pub fn verdict_of<T: Drop>(answer: Result<T, Refusal>) -> Result<(), Refusal>
+    ensures { result ≡ verdict_of answer }
+{
+    match answer {
+        Ok(_) => Ok(()),
+        Err(why) => Err(why),
     }
 }
 

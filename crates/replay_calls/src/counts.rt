@@ -11,10 +11,7 @@ pub(crate) fn put_counts(dst: &mut [u8], counts: &[u64])
     ensures { Wrote (puts (number 8) counts.now) dst.old (8 * length counts.now)
         dst.new }
 {
-    let mut i: usize = 0;
-    while i < counts.len() {
-        let n = counts[i];
-        put_number(&mut dst[8 * i..], 8, n);
-        i += 1;
+    for (i, count) in counts.iter().enumerate() {
+        put_number(&mut dst[8 * i..], 8, *count);
     }
 }

@@ -9,6 +9,7 @@ use node::Node;
 use node_image::put_node;
 
 // A node where the trace made one; else zeros.
+// Kept: the C interface has two structs, and `node_left` is all zero where the trace made no node.
 fn store_node(made: bool, node: Node, out: &mut [u8])
     requires { length out.old ≡ 878 }
     ensures { out.new ≡ cond made (node_image.put node) (replicate 878 0) }

@@ -12,7 +12,7 @@ use Rattle.lemmas.specs.logic.Tests.{both_left}
 use Rattle.refusal.specs.Refusal.{number_of}
 use Rattle.refusal.specs.Verdict.{verdict_number}
 use Rattle.refusal.specs.declared.Refusal.TheVariants.{Long}
-use Rattle.refusal.specs.declared.Verdict.{Verdict}
+use Rattle.refusal.specs.Verdict.{Verdict}
 use Rattle.image.specs.Effects.{checked_first}
 use Rattle.image.proofs.Lent.{kept, hands-emptied}
 use Rattle.image.specs.Part.{AllBytes, RoundTrips, is_image}

@@ -1,6 +1,6 @@
 -- The end of a payload from C: what arrived is read as the reading calls read it, and the object is handed back.
 use Rattle.std.specs.Prelude.{ℕ, Bool, cond, ◌&&◌, List, ◌≡◌, eqb, length}
-use Rattle.refusal.specs.declared.Verdict.{Verdict}
+use Rattle.refusal.specs.Verdict.{Verdict}
 use Rattle.image.specs.Effects.{ResultSpec}
 use Rattle.image.specs.Part.{is_image}
 use Rattle.cojp_serial.specs.State.{request_end, configuration_end}

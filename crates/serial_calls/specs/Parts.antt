@@ -1,8 +1,7 @@
 -- A reset and a part from C: the arrival stands in its image, the bytes that arrived in a lent store.
-use Rattle.std.specs.Prelude.{ℕ, cond, List, ◌≡◌, eqb, length}
+use Rattle.std.specs.Prelude.{ℕ, cond, List, ◌≡◌, eqb, length, Ok}
 use Rattle.refusal.specs.Verdict.{verdict_number}
-use Rattle.refusal.specs.declared.Verdict.{Verdict}
-use Rattle.refusal.specs.declared.Verdict.TheVariants.{Accepted}
+use Rattle.refusal.specs.Verdict.{Verdict}
 use Rattle.image.specs.Effects.{on_accept, checked_first}
 use Rattle.image.specs.Part.{is_image}
 use Rattle.cojp_serial.specs.State.{empty_state, decision_of, part_answer, part_store}
@@ -12,7 +11,7 @@ use Rattle.serial_calls.specs.Serial.{serial_image}
 
 -- ---- a reset asks for a struct of its size and nothing else: nothing of what stood there is seen
 abbrev pub reset_verdict : List ℕ → Verdict
-reset_verdict s = checked_first (eqb (length s) 6) Accepted
+reset_verdict s = checked_first (eqb (length s) 6) (Ok tt)
 
 -- the number r was answered, and the image s holds s' afterwards
 pub record Resets (s : List ℕ) (r : ℕ) (s' : List ℕ) : Type 0 where

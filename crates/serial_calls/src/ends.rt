@@ -1,22 +1,24 @@
 // The end of a payload.
-ghost use Rattle.std.specs.Prelude.{◌≡◌};
-ghost use Rattle.cojp_serial.specs.State.{request_end, configuration_end};
-ghost use Rattle.payload_calls.specs.Read.{request_asked, configuration_asked};
+ghost use Rattle.std.specs.Prelude.{true, false, not, eqb, ◌≡◌, MatchOption};
+ghost use Rattle.payload_calls.specs.Asked.{version_of};
 ghost use Rattle.serial_calls.specs.Ends.{may_end, EndsRequest, EndsConfiguration};
 
 use crate::serial::{is_serial, put_serial, serial_in};
-use cojp_serial::{ConfigurationEnd, RequestEnd, SerialState, end_configuration, end_request};
+use cojp_serial::{end_configuration, end_request};
 use image::{RANGE, clear};
-use payload_calls::{is_reading, store_configuration, store_request, version_of};
+use payload_calls::{reading_of, store_configuration, store_request};
+use protocol_version::Version;
 
-// Whether there are an image, such a form and such a reading.
-fn may_end(serial: &[u8], form: u64, reading: u64) -> bool
-    ensures { result ≡ may_end serial.now form reading }
+// The version and whether the reading is strict, where there are an image, such a form and such a reading.
+fn end_of(serial: &[u8], form: u64, reading: u64) -> Option<(Version, bool)>
+    ensures { MatchOption result (may_end serial.now form reading ≡ false)
+        (λ x. (may_end serial.now form reading ≡ true) × (x.0 ≡ version_of form) × (x.1 ≡ not (eqb reading 0))) }
 {
-    if !is_serial(serial) {
-        return false;
+    if is_serial(serial) {
+        reading_of(form, reading)
+    } else {
+        None
     }
-    is_reading(form, reading)
 }
 
 // Reads what arrived as a join request; the end stays marked in the image, also where the reading is refused.
@@ -33,27 +35,13 @@ pub fn serial_end_request(
     if out.len() != 296 {
         return RANGE;
     }
-    if !may_end(serial, form, reading) {
+    let Some((version, strict)) = end_of(serial, form, reading) else {
         clear(out);
         return RANGE;
-    }
-    let end = request_end(serial_in(serial), store, form, reading);
-    let arrival = end.state;
-    let read = end.read;
-    let verdict = read.verdict;
-    let request = read.request;
-    put_serial(serial, arrival);
-    store_request(verdict, request, out)
-}
-
-fn request_end(arrival: SerialState, store: &[u8], form: u64, reading: u64) -> RequestEnd
-    ensures { result ≡ request_end (request_asked form reading) arrival store.now }
-{
-    let version = version_of(form);
-    if reading == 0 {
-        return end_request(arrival, store, version, false);
-    }
-    end_request(arrival, store, version, true)
+    };
+    let end = end_request(serial_in(serial), store, version, strict);
+    put_serial(serial, end.state);
+    store_request(end.read.verdict, end.read.request, out)
 }
 
 // The same of a configuration.
@@ -70,30 +58,11 @@ pub fn serial_end_configuration(
     if out.len() != 570 {
         return RANGE;
     }
-    if !may_end(serial, form, reading) {
+    let Some((version, strict)) = end_of(serial, form, reading) else {
         clear(out);
         return RANGE;
-    }
-    let end = configuration_end(serial_in(serial), store, form, reading);
-    let arrival = end.state;
-    let read = end.read;
-    let verdict = read.verdict;
-    let configuration = read.configuration;
-    put_serial(serial, arrival);
-    store_configuration(verdict, configuration, out)
-}
-
-fn configuration_end(
-    arrival: SerialState,
-    store: &[u8],
-    form: u64,
-    reading: u64,
-) -> ConfigurationEnd
-    ensures { result ≡ configuration_end (configuration_asked form reading) arrival store.now }
-{
-    let version = version_of(form);
-    if reading == 0 {
-        return end_configuration(arrival, store, version, false);
-    }
-    end_configuration(arrival, store, version, true)
+    };
+    let end = end_configuration(serial_in(serial), store, version, strict);
+    put_serial(serial, end.state);
+    store_configuration(end.read.verdict, end.read.configuration, out)
 }

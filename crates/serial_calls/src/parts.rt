@@ -1,22 +1,9 @@
 // A reset, and a part of a payload.
-ghost use Rattle.std.specs.Prelude.{◌≡◌};
-ghost use Rattle.refusal.specs.Verdict.{verdict_number};
 ghost use Rattle.serial_calls.specs.Parts.{Resets, Parts};
 
 use crate::serial::{is_serial, put_serial, serial_in};
 use cojp_serial::{part, reset};
-use image::RANGE;
-use refusal::Verdict;
-
-// The number that C is answered.
-pub(crate) fn number_of(verdict: Verdict) -> u32
-    ensures { result ≡ verdict_number verdict }
-{
-    match verdict {
-        Verdict::Accepted => 0,
-        Verdict::Refused(why) => why.number() as u32,
-    }
-}
+use image::{RANGE, number_of};
 
 // Begins anew, whatever stood in the image.
 pub fn serial_reset(serial: &mut [u8]) -> u32
@@ -37,8 +24,6 @@ pub fn serial_part(serial: &mut [u8], store: &mut [u8], sent: &[u8]) -> u32
         return RANGE;
     }
     let answer = part(serial_in(serial), store, sent);
-    let verdict = answer.verdict;
-    let arrival = answer.state;
-    put_serial(serial, arrival);
-    number_of(verdict)
+    put_serial(serial, answer.state);
+    number_of(answer.verdict)
 }

@@ -15,13 +15,7 @@ const SIZE: usize = 6;
 pub fn is_serial(s: &[u8]) -> bool
     ensures { result ≡ is_image serial_image s.now }
 {
-    if !is_headed(s, SIZE, KIND) {
-        return false;
-    }
-    if !is_bool(s, 4) {
-        return false;
-    }
-    is_bool(s, 5)
+    is_headed(s, SIZE, KIND) && is_bool(s, 4) && is_bool(s, 5)
 }
 
 // The arrival in an image.

@@ -9,19 +9,15 @@ ghost use Rattle.short_address.specs.Address.{is_address, bytes_of, AddressLaws}
 pub fn is_address(bytes: [u8; 2]) -> bool
     ensures { result ≡ is_address bytes }
 {
-    let high = bytes[0];
-    let low = bytes[1];
-    if high != 0xff {
-        return true;
-    }
-    low < 0xfe
+    u16::from_be_bytes(bytes) < 0xfffe
 }
 
 // The two bytes of the address with this number, as a payload has them.
+#[tactic(auto, using(crate::proofs::Addresses::be_bytes))]
 pub fn bytes_of(number: u16) -> [u8; 2]
     ensures { result ≡ bytes_of number }
 {
-    [(number / 256) as u8, (number % 256) as u8]
+    number.to_be_bytes()
 }
 
 // The addresses are the two bytes of the numbers 0000 to FFFD; FF FE and FF FF are none.

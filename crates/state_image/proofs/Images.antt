@@ -1,4 +1,5 @@
 -- The images are lawful by their tables; what the code reads at fixed places is what the fields get, one after the other.
+use Rattle.std.specs.Prelude.{None, Some}
 use Prim.Native.Nat.{ℕ, ◌<◌, ◌≤◌}
 use mathlib.Core.Path.{◌≡◌, refl, ap, sym, ◌∙◌}
 use mathlib.Core.Bool.{Bool, true, false, ◌&&◌, and_assoc}
@@ -17,8 +18,7 @@ use Rattle.image.specs.CodecLaws.{both-lawful, viewed-lawful, viewed_if-lawful, 
 use Rattle.image.specs.Part.{RoundTrips, number, octets, up_to, both, viewed, is_headed, is_image}
 use Rattle.join_proxy.specs.Keys.{count_of}
 use Rattle.join_proxy.specs.declared.judging.Pledge.{Pledge}
-use Rattle.join_proxy.specs.declared.proxy.Issued.{Issued}
-use Rattle.join_proxy.specs.declared.proxy.Issued.TheVariants.{Count, All}
+use Rattle.join_proxy.specs.Issued.{Issued}
 use Rattle.join_proxy.specs.declared.proxy.Proxy.{Proxy}
 use Rattle.address_ledger.specs.Ledger.{ledger_of}
 use Rattle.address_ledger.specs.declared.ledger.Ledger.{Ledger}
@@ -49,19 +49,19 @@ ledger-lawful =
     (both-lawful _ _ (number-lawful 2) (both-lawful _ _ (number-lawful 2) (both-lawful _ _ (number-lawful 2) (number-lawful 8)))))
 
 -- ---- how many were issued
-pub some-issued : (n : ℕ) → n < numbers → Count n ≡ issued_of n
+pub some-issued : (n : ℕ) → n < numbers → Some n ≡ issued_of n
 some-issued n h = rw (lt-ltb n numbers h)
 
-pub all-issued : (n : ℕ) → numbers ≤ n → All ≡ issued_of n
+pub all-issued : (n : ℕ) → numbers ≤ n → None ≡ issued_of n
 all-issued n h = rw (le-ltb n numbers h)
 
 issued-there : (i : Issued) → Held i → (up_to numbers (number 8)).Fit (count_of i)
-issued-there (Count n) h = (omega arith, le-leb n numbers (omega arith))
-issued-there All h = (omega arith, refl)
+issued-there (Some n) h = (omega arith, le-leb n numbers (omega arith))
+issued-there None h = (omega arith, refl)
 
 issued-again : (i : Issued) → Held i → issued_of (count_of i) ≡ i
-issued-again (Count n) h = sym (some-issued n h)
-issued-again All h = refl
+issued-again (Some n) h = sym (some-issued n h)
+issued-again None h = refl
 
 issued-here : (n : ℕ) (b : Bool) → ltb n numbers ≡ b → Held (issued_of n)
 issued-here n true e = rw e (ltb-true n numbers e)
@@ -102,7 +102,7 @@ module _ (s : List ℕ) where
       → proxy_to (k, i) ≡ proxy_image.get s
   proxy-got e f = rw (e, f, drop-drop 16 2 s)
 
-pub proxy-stored : (p : Proxy) {n : ℕ} {d d' : List ℕ} → length d ≡ 26 → n ≡ count_of p.issued
+pub proxy-stored : (p : Proxy) {n : ℕ} {d d' : List ℕ} → length d ≡ 26 → n ≡ count_of p.next
     → Wrote (((0x50 ∷ 1 ∷ []) ++ p.key) ++ bytes_of 8 n) d 26 d' → d' ≡ proxy_image.put p
 proxy-stored p e f w = whole-struct e w ∙ two_fields (0x50 ∷ 1 ∷ []) p.key (bytes_of 8 _) ∙ rw f
 

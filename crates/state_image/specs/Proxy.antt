@@ -1,11 +1,10 @@
 -- The image of a join proxy, 26 bytes: kind P, layout, key 16, numbers issued 8. And of a pledge that a body names, 21 bytes: kind G,
 -- layout, interface identifier 8, port 2, token length 1, token 8.
-use Rattle.std.specs.Prelude.{ℕ, ◌<◌, cond, List, ◌≡◌, ltb}
+use Rattle.std.specs.Prelude.{ℕ, ◌<◌, cond, List, ◌≡◌, ltb, None, Some}
 use Rattle.image.specs.Part.{Part, byte, number, octets, up_to, both, viewed_if, viewed, headed}
 use Rattle.join_proxy.specs.Keys.{count_of}
 use Rattle.join_proxy.specs.declared.judging.Pledge.{Pledge}
-use Rattle.join_proxy.specs.declared.proxy.Issued.{Issued}
-use Rattle.join_proxy.specs.declared.proxy.Issued.TheVariants.{Count, All}
+use Rattle.join_proxy.specs.Issued.{Issued}
 use Rattle.join_proxy.specs.declared.proxy.Proxy.{Proxy}
 
 -- how many numbers there are
@@ -13,21 +12,21 @@ abbrev pub numbers : ℕ
 numbers = 4294967296
 
 abbrev pub issued_of : ℕ → Issued
-issued_of n = cond (ltb n numbers) (Count n) All
+issued_of n = cond (ltb n numbers) (Some n) None
 
 -- a count that a program can hold
 abbrev pub Held : Issued → Type 0
-Held (Count n) = n < numbers
-Held All = ◌≡◌ {A = ℕ} 0 0
+Held (Some n) = n < numbers
+Held None = ◌≡◌ {A = ℕ} 0 0
 
 abbrev pub issued_part : Part Issued
 issued_part = viewed_if Held (up_to numbers (number 8)) issued_of count_of
 
 abbrev pub proxy_to : List ℕ × Issued → Proxy
-proxy_to x = record { key = x.0; issued = x.1 }
+proxy_to x = record { key = x.0; next = x.1 }
 
 abbrev pub proxy_from : Proxy → List ℕ × Issued
-proxy_from p = (p.key, p.issued)
+proxy_from p = (p.key, p.next)
 
 abbrev pub proxy_image : Part Proxy
 proxy_image = headed 0x50 (viewed (both (octets 16) issued_part) proxy_to proxy_from)

@@ -4,10 +4,8 @@ ghost use Rattle.image.specs.Part.{is_image};
 ghost use Rattle.join_proxy.specs.Keys.{count_of};
 ghost use Rattle.state_image.specs.Proxy.{issued_of, proxy_image, pledge_image};
 
-use image::{
-    array_16_at, is_headed, number_at, put_array_8, put_array_16, put_byte, put_head, put_number,
-};
-use join_proxy::{Issued, Pledge, Proxy};
+use image::{array_at, is_headed, number_at, put_array, put_byte, put_head, put_number};
+use join_proxy::{Pledge, Proxy};
 
 const KIND: u8 = b'P';
 
@@ -21,10 +19,7 @@ const NUMBERS: u64 = 4294967296;
 pub fn is_proxy(s: &[u8]) -> bool
     ensures { result ≡ is_image proxy_image s.now }
 {
-    if is_headed(s, SIZE, KIND) {
-        return number_at(s, 18, 8) <= NUMBERS;
-    }
-    false
+    is_headed(s, SIZE, KIND) && number_at(s, 18, 8) <= NUMBERS
 }
 
 // The proxy in an image.
@@ -33,8 +28,8 @@ pub fn proxy_in(s: &[u8]) -> Proxy
     ensures { result ≡ proxy_image.get s.now }
 {
     Proxy {
-        key: array_16_at(s, 2),
-        issued: issued_of(number_at(s, 18, 8)),
+        key: array_at(s, 2),
+        next: next_of(number_at(s, 18, 8)),
     }
 }
 
@@ -43,29 +38,21 @@ pub fn put_proxy(dst: &mut [u8], proxy: Proxy)
     requires { length dst.old ≡ 26 }
     ensures { dst.new ≡ proxy_image.put proxy }
 {
-    let key = proxy.key;
-    let issued = proxy.issued;
     put_head(dst, KIND);
-    put_array_16(&mut dst[2..], key);
-    put_number(&mut dst[18..], 8, count_of(issued));
+    put_array(&mut dst[2..], &proxy.key);
+    put_number(&mut dst[18..], 8, count_of(proxy.next));
 }
 
-fn issued_of(n: u64) -> Issued
-    ensures { result ≡ issued_of n }
+fn next_of(issued: u64) -> Option<u32>
+    ensures { result ≡ issued_of issued }
 {
-    if n < NUMBERS {
-        return Issued::Count(n as u32);
-    }
-    Issued::All
+    u32::try_from(issued).ok()
 }
 
-fn count_of(issued: Issued) -> u64
-    ensures { result ≡ count_of issued }
+fn count_of(next: Option<u32>) -> u64
+    ensures { result ≡ count_of next }
 {
-    match issued {
-        Issued::Count(n) => n as u64,
-        Issued::All => NUMBERS,
-    }
+    next.map_or(NUMBERS, u64::from)
 }
 
 // Stores a pledge.
@@ -73,11 +60,9 @@ pub fn put_pledge(dst: &mut [u8], pledge: Pledge)
     requires { length dst.old ≡ 21 }
     ensures { dst.new ≡ pledge_image.put pledge }
 {
-    let interface = pledge.interface;
-    let token = pledge.token;
     put_head(dst, PLEDGE_KIND);
-    put_array_8(&mut dst[2..], interface);
+    put_array(&mut dst[2..], &pledge.interface);
     put_number(&mut dst[10..], 2, pledge.port as u64);
     put_byte(&mut dst[12..], pledge.len);
-    put_array_8(&mut dst[13..], token);
+    put_array(&mut dst[13..], &pledge.token);
 }

@@ -1,148 +1,124 @@
 // The command `show I`: a node on one line.
 #![tactic(auto)]
 
-use link_key::Key;
 use link_key_counters::CountedSet;
 use node::Node;
 use node_attempt::{Attempt, Phase};
 use node_parameters::{HeldAddress, HeldList, HeldOctets, HeldRate};
 use protocol_version::Version;
-use tool_text::output::{Buffer, Output};
+use tool_text::output::{ByteString, Output};
 
 // Writes what the node is and holds.
-pub fn put_node(out: Output, node: Node, buffer: &mut Buffer) -> Output {
-    let version = node.version;
-    let out = put_version(out, version, buffer);
-    let out = put_number(out, b"role=", node.role as u64, buffer);
-    let out = put_attempt(out, node.attempt, buffer);
-    let out = put_key_set(out, b" active=", node.sets.active, buffer);
-    let out = put_key_set(out, b" pending=", node.sets.pending, buffer);
-    let out = put_address(out, node.address, buffer);
-    let out = put_octets(out, b" jrc=", node.jrc, buffer);
-    let out = put_octets(out, b" network=", node.network, buffer);
-    match version {
-        Version::Draft => put_octets(out, b" prefix=", node.prefix, buffer),
-        Version::Published => put_published(out, node, buffer),
+pub fn put_node(out: &mut Output, node: Node) {
+    put_version(out, node.version);
+    write!(out, "role={}", node.role);
+    put_attempt(out, node.attempt);
+    put_key_set(out, " active=", node.sets.active);
+    put_key_set(out, " pending=", node.sets.pending);
+    put_address(out, node.address);
+    put_octets(out, " jrc=", node.jrc);
+    put_octets(out, " network=", node.network);
+    match node.version {
+        Version::Draft => put_octets(out, " prefix=", node.prefix),
+        Version::Published => put_published(out, node),
     }
 }
 
 // A node of the draft is shown without its form.
-fn put_version(out: Output, version: Version, buffer: &mut Buffer) -> Output {
+fn put_version(out: &mut Output, version: Version) {
     match version {
-        Version::Draft => out,
-        Version::Published => out.text(b"form=new ", buffer),
+        Version::Draft => {}
+        Version::Published => write!(out, "form=new "),
     }
 }
 
 // What a node of the published form alone holds.
-fn put_published(out: Output, node: Node, buffer: &mut Buffer) -> Output {
-    let out = put_blacklist(out, node.blacklist, buffer);
-    let out = put_rate(out, node.rate, buffer);
-    let out = out.text(b" reports=", buffer);
-    tool_notation::put_faults(out, node.errors, buffer)
+fn put_published(out: &mut Output, node: Node) {
+    put_blacklist(out, node.blacklist);
+    put_rate(out, node.rate);
+    write!(out, " reports=");
+    tool_notation::put_faults(out, node.errors);
 }
 
-fn put_blacklist(out: Output, blacklist: HeldList, buffer: &mut Buffer) -> Output {
-    let out = out.text(b" blacklist=", buffer);
+fn put_blacklist(out: &mut Output, blacklist: HeldList) {
+    write!(out, " blacklist=");
     if !blacklist.held {
-        return out.text(b"none", buffer);
+        return write!(out, "none");
     }
-    tool_notation::put_blacklist(out, blacklist.value, buffer)
+    tool_notation::put_blacklist(out, blacklist.value);
 }
 
-fn put_rate(out: Output, rate: HeldRate, buffer: &mut Buffer) -> Output {
+fn put_rate(out: &mut Output, rate: HeldRate) {
     if !rate.held {
-        return out.text(b" rate=none", buffer);
+        return write!(out, " rate=none");
     }
-    put_number(out, b" rate=", rate.value, buffer)
+    write!(out, " rate={}", rate.value);
 }
 
-fn put_number(out: Output, name: &[u8], number: u64, buffer: &mut Buffer) -> Output {
-    out.text(name, buffer).number(number, buffer)
+fn put_attempt(out: &mut Output, attempt: Attempt) {
+    write!(
+        out,
+        " phase={} clock={} sent={}",
+        name_of(attempt.phase),
+        attempt.clock,
+        attempt.sent
+    );
+    write!(out, " timeout={} count={}", attempt.timeout, attempt.count);
 }
 
-fn put_attempt(out: Output, attempt: Attempt, buffer: &mut Buffer) -> Output {
-    let phase = attempt.phase;
-    let out = put_phase(out, phase, buffer);
-    let out = put_number(out, b" clock=", attempt.clock, buffer);
-    let out = put_number(out, b" sent=", attempt.sent, buffer);
-    let out = put_number(out, b" timeout=", attempt.timeout, buffer);
-    put_number(out, b" count=", attempt.count as u64, buffer)
-}
-
-fn put_phase(out: Output, phase: Phase, buffer: &mut Buffer) -> Output {
-    let out = out.text(b" phase=", buffer);
+fn name_of(phase: Phase) -> &'static str {
     match phase {
-        Phase::Idle => out.text(b"idle", buffer),
-        Phase::Waiting => out.text(b"waiting", buffer),
-        Phase::Joined => out.text(b"joined", buffer),
-        Phase::GaveUp => out.text(b"gave-up", buffer),
+        Phase::Idle => "idle",
+        Phase::Waiting => "waiting",
+        Phase::Joined => "joined",
+        Phase::GaveUp => "gave-up",
     }
 }
 
-fn put_key_set(out: Output, name: &[u8], held: CountedSet, buffer: &mut Buffer) -> Output {
-    let out = out.text(name, buffer);
-    let set = held.set;
-    if set.count == 0 {
-        return out.text(b"none", buffer);
+fn put_key_set(out: &mut Output, name: &str, held: CountedSet) {
+    write!(out, "{name}");
+    if held.set.count == 0 {
+        return write!(out, "none");
     }
-    let keys = set.keys;
-    let counters = held.counters;
-    let out = out.byte(b'[', buffer);
-    let out = put_counted(out, keys, counters, set.count, buffer);
-    out.byte(b']', buffer)
+    put_counted(out, held);
 }
 
-// The first `count` of eight keys, each with its counter, with commas between them.
-fn put_counted(
-    out: Output,
-    keys: [Key; 8],
-    counters: [u32; 8],
-    count: usize,
-    buffer: &mut Buffer,
-) -> Output {
-    let mut out = out;
-    for i in 0..count {
-        if 8 <= i {
-            return out;
-        }
+// The keys, each with its counter, as [KEY#COUNTER,KEY#COUNTER].
+fn put_counted(out: &mut Output, held: CountedSet) {
+    out.byte(b'[');
+    let pairs = held.set.keys.iter().zip(held.counters.iter());
+    for (i, (key, counter)) in pairs.take(held.set.count).enumerate() {
         if 0 < i {
-            out = out.byte(b',', buffer);
+            out.byte(b',');
         }
-        out = tool_notation::put_key(out, keys[i], buffer);
-        out = out.byte(b'#', buffer);
-        out = put_counter(out, counters[i], buffer);
+        tool_notation::put_key(out, *key);
+        write!(out, "#{counter}");
     }
-    out
-}
-
-pub fn put_counter(out: Output, counter: u32, buffer: &mut Buffer) -> Output {
-    out.number(counter as u64, buffer)
+    out.byte(b']');
 }
 
 // The short address, its lease and its time of receipt.
-fn put_address(out: Output, address: HeldAddress, buffer: &mut Buffer) -> Output {
+fn put_address(out: &mut Output, address: HeldAddress) {
     if !address.held {
-        return out.text(b" address=none lease=none received=none", buffer);
+        return write!(out, " address=none lease=none received=none");
     }
     let value = address.value;
-    let bytes = value.bytes;
-    let out = out.text(b" address=", buffer).octets(&bytes, buffer);
-    let out = put_lease(out, value.leased, value.lease, buffer);
-    put_number(out, b" received=", address.received, buffer)
+    write!(out, " address={}", ByteString(&value.bytes));
+    put_lease(out, value.leased, value.lease);
+    write!(out, " received={}", address.received);
 }
 
-fn put_lease(out: Output, leased: bool, lease: u64, buffer: &mut Buffer) -> Output {
-    if leased {
-        return put_number(out, b" lease=", lease, buffer);
+fn put_lease(out: &mut Output, leased: bool, lease: u64) {
+    if !leased {
+        return write!(out, " lease=none");
     }
-    out.text(b" lease=none", buffer)
+    write!(out, " lease={lease}");
 }
 
-fn put_octets(out: Output, name: &[u8], octets: HeldOctets, buffer: &mut Buffer) -> Output {
-    let out = out.text(name, buffer);
+fn put_octets(out: &mut Output, name: &str, octets: HeldOctets) {
+    write!(out, "{name}");
     if !octets.held {
-        return out.text(b"none", buffer);
+        return write!(out, "none");
     }
-    tool_notation::put_octets(out, octets.value, buffer)
+    tool_notation::put_octets(out, octets.value);
 }

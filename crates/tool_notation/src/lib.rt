@@ -12,8 +12,8 @@ pub use key::{put_key, put_key_set};
 pub use list::{put_blacklist, put_unsupported};
 use protocol_version::Version;
 use refusal::Refusal;
-use tool_text::find::find;
-use tool_text::output::{Buffer, Output};
+use tool_text::first;
+use tool_text::output::{ByteString, Output};
 
 // What is kept of a payload: one byte more than it may have is enough to be answered LONG.
 pub type Payload = [u8; 257];
@@ -23,30 +23,27 @@ pub fn no_payload() -> Payload {
 }
 
 // A refusal, as refused 5 TYPE; zeros fill its name up.
-pub fn put_refusal(out: Output, refusal: Refusal, buffer: &mut Buffer) -> Output {
-    let name = refusal.name();
-    let letters = find(&name, 0, 8, 0);
-    let out = out.text(b"refused ", buffer);
-    let out = out.number(refusal.number() as u64, buffer);
-    let out = out.byte(b' ', buffer);
-    out.text(&name[0..letters], buffer)
+pub fn put_refusal(out: &mut Output, refusal: Refusal) {
+    write!(out, "refused {} ", refusal.number());
+    for letter in refusal.name().iter().take_while(|b| **b != 0) {
+        out.byte(*letter);
+    }
 }
 
 // A byte string of at most 16 bytes.
-pub fn put_octets(out: Output, octets: Octets, buffer: &mut Buffer) -> Output {
-    let bytes = octets.bytes;
-    out.octets(tool_text::first(&bytes, octets.len), buffer)
+pub fn put_octets(out: &mut Output, octets: Octets) {
+    write!(out, "{}", ByteString(first(&octets.bytes, octets.len)));
 }
 
 // The word for a bad parameter: the draft's are discarded, those of RFC 9031 malformed.
-pub fn put_bad(out: Output, version: Version, buffer: &mut Buffer) -> Output {
+pub fn put_bad(out: &mut Output, version: Version) {
     match version {
-        Version::Draft => out.text(b"discarded", buffer),
-        Version::Published => out.text(b"malformed", buffer),
+        Version::Draft => write!(out, "discarded"),
+        Version::Published => write!(out, "malformed"),
     }
 }
 
 // How many labels were passed over.
-pub fn put_passed(out: Output, passed: u64, buffer: &mut Buffer) -> Output {
-    out.text(b" passed=", buffer).number(passed, buffer)
+pub fn put_passed(out: &mut Output, passed: u64) {
+    write!(out, " passed={passed}");
 }

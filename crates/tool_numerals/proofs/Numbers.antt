@@ -1,41 +1,14 @@
 -- A word read character by character is the number that it stands for.
-use Prim.Native.Nat.{ℕ, ◌+◌, ◌-◌, ◌*◌, ◌^◌, ◌/◌, ◌≤◌, ◌<◌}
+use Prim.Native.Nat.{ℕ, ◌+◌, ◌-◌, ◌*◌, ◌^◌, ◌≤◌, ◌<◌}
 use native.Mathlib.Omega.{arith}
-use native.Mathlib.Numerals.{add-one}
 use mathlib.Core.Path.{◌≡◌, refl}
 use mathlib.Core.Bool.{Bool, true, false, cond, ◌&&◌}
 use mathlib.Core.List.{List, [], ◌∷◌}
-use borrow.Author.Tests.{lt-ltb, le-ltb, le-leb, lt-leb, ltb-true, ltb-false}
+use borrow.Author.Tests.{lt-ltb, le-ltb, ltb-true, ltb-false}
 use lib.Dec.{ltb}
-use lib.ListN.{length, get_or, drop, drop_of_length-le}
-use lib.Seq.{drop-cons}
-use Rattle.tool_numerals.specs.Decimal.{is_digit, all_digits, value_after, fitting, number_of, number_with, stepped, read_on}
+use Rattle.tool_numerals.specs.Decimal.{is_digit, all_digits, value_after, fitting, number_of, read_on}
 use Rattle.tool_numerals.specs.declared.decimal.Decimal.{Decimal}
 use Rattle.tool_numerals.specs.declared.decimal.Decimal.TheVariants.{Empty, Number, Fault}
-
--- one character more: below the digits, above them, too large a number, a number
-
-pub low : (v c : ℕ) → c < 48 → Fault ≡ number_with v c
-low v c h = rw (lt-leb 48 c h)
-
-pub high : (v c : ℕ) → 48 ≤ c → 57 < c → Fault ≡ number_with v c
-high v c l h = rw (le-leb 48 c l, lt-leb c 57 h)
-
-pub over : (v c d : ℕ) → 48 ≤ c → c ≤ 57 → d ≡ c - 48 → (2 ^ 64 - 1 - d) / 10 < v → Fault ≡ number_with v c
-over v c d l h e o = rw (le-leb 48 c l, le-leb c 57 h, le-ltb (v * 10 + (c - 48)) (2 ^ 64) (omega arith))
-
-pub within : (v c d : ℕ) → 48 ≤ c → c ≤ 57 → d ≡ c - 48 → v ≤ (2 ^ 64 - 1 - d) / 10 → Number (v * 10 + d) ≡ number_with v c
-within v c d l h e o = rw (e, le-leb 48 c l, le-leb c 57 h, lt-ltb (v * 10 + (c - 48)) (2 ^ 64) (omega arith))
-
--- a turn of the loop: reading what is left goes on to the same end
-pub onward : (part : List ℕ) (i : ℕ) (d₀ d next : Decimal) → i < length part → next ≡ stepped d (get_or part i 0)
-    → read_on d (drop i part) ≡ read_on d₀ part → read_on next (drop (i + 1) part) ≡ read_on d₀ part
-onward part i d₀ d next h e inv = rw (e, add-one) (rw (drop-cons part i 0 h) at inv)
-
--- after the last turn nothing is left
-pub ended : (part : List ℕ) (i : ℕ) (d₀ d : Decimal) → length part ≤ i → read_on d (drop i part) ≡ read_on d₀ part
-    → d ≡ read_on d₀ part
-ended part i d₀ d h inv = rw (drop_of_length-le part h) at inv
 
 -- a faulty word stays one
 fault-stays : (word : List ℕ) → read_on Fault word ≡ Fault

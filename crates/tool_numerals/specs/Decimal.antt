@@ -1,5 +1,5 @@
 -- Decimal numbers as the desk tools take them: digits alone, leading zeros at will, 0 to 2 ^ 64 - 1.
-use Rattle.std.specs.Prelude.{ℕ, ◌+◌, ◌-◌, ◌*◌, ◌^◌, Bool, true, cond, ◌&&◌, List, [], ◌∷◌, leb, ltb}
+use Rattle.std.specs.Prelude.{ℕ, ◌+◌, ◌-◌, ◌*◌, ◌^◌, Bool, true, cond, ◌&&◌, List, [], ◌∷◌, Option, None, Some, leb, ltb}
 use Rattle.tool_numerals.specs.declared.decimal.Decimal.{Decimal}
 use Rattle.tool_numerals.specs.declared.decimal.Decimal.TheVariants.{Empty, Number, Fault}
 
@@ -40,3 +40,9 @@ stepped Fault c = Fault
 abbrev pub read_on : Decimal → List ℕ → Decimal
 read_on d [] = d
 read_on d (c ∷ part) = read_on (stepped d c) part
+
+-- the number that was read, where one was
+abbrev pub value_of : Decimal → Option ℕ
+value_of Empty = None
+value_of (Number v) = Some v
+value_of Fault = None

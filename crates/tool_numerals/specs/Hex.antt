@@ -1,9 +1,8 @@
 -- HEX as the desk tools take it: hexadecimal digits, either case, an even count, spaces at will among them.
-use Rattle.std.specs.Prelude.{ℕ, ◌+◌, ◌-◌, ◌*◌, ◌%◌, min, ◌≡◌, Bool, true, false, cond, not, ◌&&◌, ◌||◌, List, [], ◌∷◌, leb, ltb, eqb, length, set}
+use Rattle.std.specs.Prelude.{ℕ, ◌+◌, ◌-◌, ◌*◌, ◌%◌, min, ◌≡◌, Bool, true, false, cond, not, ◌&&◌, ◌||◌, List, [], ◌∷◌, Option, None, Some, leb, ltb, eqb, length, set}
+use Rattle.std.specs.Option.{is_some}
 use Rattle.std.proofs.lemmas.List.Edits.{sets}
 use Rattle.tool_numerals.specs.declared.hex.Hex.{Hex}
-use Rattle.tool_numerals.specs.declared.hex.Payload.{Payload}
-use Rattle.tool_numerals.specs.declared.hex.Payload.TheVariants.{Bytes, Fault}
 
 -- what a character is in HEX
 pub data Sign : Type 0 where
@@ -18,9 +17,11 @@ sign_of c =
     (cond (leb 97 c && leb c 102) (Digit (c - 87))
     (cond (eqb c 32) Space Stray)))
 
--- the same where a table has the value of a digit, 16 for a space, and a larger number for any other
-abbrev pub sign_at : ℕ → Sign
-sign_at v = cond (ltb v 16) (Digit v) (cond (eqb v 16) Space Stray)
+-- the value of a digit
+abbrev pub sign_value : Sign → Option ℕ
+sign_value (Digit v) = Some v
+sign_value Space = None
+sign_value Stray = None
 
 -- the digits among the characters
 abbrev pub before : Sign → List ℕ → List ℕ
@@ -54,29 +55,35 @@ is_odd [] = false
 is_odd (d ∷ digits) = not (is_odd digits)
 
 -- what HEX stands for where the buffer has room for so many bytes
-abbrev pub payload_of : ℕ → List ℕ → Payload
-payload_of room chars = cond (any_stray chars || is_odd (digits_of chars)) Fault (Bytes (min room (length (bytes_of (digits_of chars)))))
+abbrev pub payload_of : ℕ → List ℕ → Option ℕ
+payload_of room chars = cond (any_stray chars || is_odd (digits_of chars)) None (Some (min room (length (bytes_of (digits_of chars)))))
 
 -- Reading goes character by character: what was read, and what stands in the buffer.
 
 abbrev pub fresh : Hex
-fresh = record { len = 0; odd = false; high = 0; stray = false }
+fresh = record { len = 0; high = None; stray = false }
 
--- one digit more
+-- one digit more: the first of a byte waits, the second goes to the buffer with the first, where there is room
 abbrev pub with_digit : Hex → ℕ → ℕ → Hex
-with_digit h room v =
-    cond h.odd (record { len = cond (ltb h.len room) (h.len + 1) h.len; odd = false; high = 0; stray = h.stray })
-    (record { len = h.len; odd = true; high = v; stray = h.stray })
+with_digit h room v = digit_after h.high
+  where
+    digit_after : Option ℕ → Hex
+    digit_after None = record { len = h.len; high = Some v; stray = h.stray }
+    digit_after (Some high) = record { len = cond (ltb h.len room) (h.len + 1) h.len; high = None; stray = h.stray }
 
 -- the buffer after it; past its end nothing is written
 abbrev pub stored_digit : Hex → List ℕ → ℕ → List ℕ
-stored_digit h buffer v = cond h.odd (set buffer h.len (h.high % 16 * 16 + v)) buffer
+stored_digit h buffer v = stored_after h.high
+  where
+    stored_after : Option ℕ → List ℕ
+    stored_after None = buffer
+    stored_after (Some high) = set buffer h.len (high % 16 * 16 + v)
 
 -- one character more
 abbrev pub with_character : Hex → ℕ → Sign → Hex
 with_character h room (Digit v) = with_digit h room v
 with_character h room Space = h
-with_character h room Stray = record { len = h.len; odd = h.odd; high = h.high; stray = true }
+with_character h room Stray = record { len = h.len; high = h.high; stray = true }
 
 abbrev pub stored : Hex → List ℕ → Sign → List ℕ
 stored h buffer (Digit v) = stored_digit h buffer v
@@ -93,8 +100,8 @@ written_on h buffer room [] = buffer
 written_on h buffer room (c ∷ part) = written_on (with_character h room (sign_of c)) (stored h buffer (sign_of c)) room part
 
 -- what was read, taken for the whole
-abbrev pub answer_of : Hex → Payload
-answer_of h = cond (h.stray || h.odd) Fault (Bytes h.len)
+abbrev pub answer_of : Hex → Option ℕ
+answer_of h = cond (h.stray || is_some h.high) None (Some h.len)
 
 -- HEX that is read whole, in one part or many, is what it stands for, and the buffer begins with its bytes, as many as have room.
 abbrev pub HexIsBytes : Type 0

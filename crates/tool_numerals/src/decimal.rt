@@ -1,9 +1,9 @@
 // A word read as a decimal number, in as many parts as it comes in.
 ghost use Rattle.std.specs.Prelude.{◌≡◌, List, ℕ};
-ghost use Rattle.tool_numerals.specs.Decimal.{number_with, stepped, read_on, number_of};
+ghost use Rattle.tool_numerals.specs.Decimal.{number_with, stepped, read_on, number_of, value_of};
 
 // What the characters of a word stand for.
-#[derive(Clone, Copy)]
+#[derive(Clone, Copy, PartialEq, Eq)]
 pub enum Decimal {
     // There are none yet.
     Empty,
@@ -24,6 +24,16 @@ impl Decimal {
         number
     }
 
+    // The number, where there is one.
+    pub fn value(self) -> Option<u64>
+        ensures { result ≡ value_of self }
+    {
+        match self {
+            Decimal::Number(value) => Some(value),
+            Decimal::Empty | Decimal::Fault => None,
+        }
+    }
+
     // The word with one character more.
     fn digit(self, c: u8) -> Decimal
         ensures { result ≡ stepped self c }
@@ -36,23 +46,14 @@ impl Decimal {
     }
 }
 
-fn wide(x: u8) -> u64
-    ensures { result ≡ x }
-{
-    x as u64
-}
-
 // The number with one digit more at its end.
 fn with_digit(value: u64, c: u8) -> Decimal
     ensures { result ≡ number_with value c }
 {
-    if c < b'0' {
+    if !c.is_ascii_digit() {
         return Decimal::Fault;
     }
-    if b'9' < c {
-        return Decimal::Fault;
-    }
-    let digit = wide(c - b'0');
+    let digit = u64::from(c - b'0');
     if (u64::MAX - digit) / 10 < value {
         return Decimal::Fault;
     }

@@ -1,38 +1,17 @@
 // HEX, hexadecimal digits with spaces among them, read into a buffer in as many parts as it comes in.
 ghost use Rattle.std.specs.Prelude.{◌≡◌, ◌<◌, length};
-ghost use Rattle.tool_numerals.specs.Hex.{fresh, sign_at, with_digit, stored_digit, with_character, stored};
+ghost use Rattle.tool_numerals.specs.Hex.{fresh, sign_of, sign_value, with_digit, stored_digit, with_character, stored};
 ghost use Rattle.tool_numerals.specs.Hex.{read_on, written_on, answer_of, HexIsBytes};
-
-// What each character is: the value of a digit, 16 for a space, 17 for any other.
-const VALUES: [u8; 256] = *b"\
-    \x11\x11\x11\x11\x11\x11\x11\x11\x11\x11\x11\x11\x11\x11\x11\x11\x11\x11\x11\x11\x11\x11\x11\x11\x11\x11\x11\x11\x11\x11\x11\x11\
-    \x10\x11\x11\x11\x11\x11\x11\x11\x11\x11\x11\x11\x11\x11\x11\x11\x00\x01\x02\x03\x04\x05\x06\x07\x08\x09\x11\x11\x11\x11\x11\x11\
-    \x11\x0a\x0b\x0c\x0d\x0e\x0f\x11\x11\x11\x11\x11\x11\x11\x11\x11\x11\x11\x11\x11\x11\x11\x11\x11\x11\x11\x11\x11\x11\x11\x11\x11\
-    \x11\x0a\x0b\x0c\x0d\x0e\x0f\x11\x11\x11\x11\x11\x11\x11\x11\x11\x11\x11\x11\x11\x11\x11\x11\x11\x11\x11\x11\x11\x11\x11\x11\x11\
-    \x11\x11\x11\x11\x11\x11\x11\x11\x11\x11\x11\x11\x11\x11\x11\x11\x11\x11\x11\x11\x11\x11\x11\x11\x11\x11\x11\x11\x11\x11\x11\x11\
-    \x11\x11\x11\x11\x11\x11\x11\x11\x11\x11\x11\x11\x11\x11\x11\x11\x11\x11\x11\x11\x11\x11\x11\x11\x11\x11\x11\x11\x11\x11\x11\x11\
-    \x11\x11\x11\x11\x11\x11\x11\x11\x11\x11\x11\x11\x11\x11\x11\x11\x11\x11\x11\x11\x11\x11\x11\x11\x11\x11\x11\x11\x11\x11\x11\x11\
-    \x11\x11\x11\x11\x11\x11\x11\x11\x11\x11\x11\x11\x11\x11\x11\x11\x11\x11\x11\x11\x11\x11\x11\x11\x11\x11\x11\x11\x11\x11\x11\x11";
 
 // What was read so far.
 #[derive(Clone, Copy)]
 pub struct Hex {
     // how many bytes were written to the buffer; where it is full, later ones are passed over
     pub len: usize,
-    // whether a byte's first digit waits for its second, and that digit
-    pub odd: bool,
-    pub high: u8,
+    // the first digit of a byte, while it waits for the second
+    pub high: Option<u8>,
     // whether a character was neither a digit nor a space
     pub stray: bool,
-}
-
-// What HEX stands for.
-#[derive(Clone, Copy)]
-pub enum Payload {
-    // so many bytes of the buffer
-    Bytes(usize),
-    // a digit that is none, or an odd count of digits
-    Fault,
 }
 
 impl Hex {
@@ -41,8 +20,7 @@ impl Hex {
     {
         Hex {
             len: 0,
-            odd: false,
-            high: 0,
+            high: None,
             stray: false,
         }
     }
@@ -52,44 +30,36 @@ impl Hex {
         ensures value { result ≡ read_on self (length buffer.old) part.now }
         ensures buffer_after { buffer.new ≡ written_on self buffer.old (length buffer.old) part.now }
     {
-        // a copy, since a constant is made anew wherever it is named
-        let values = VALUES;
         let mut hex = self;
         for c in part {
-            hex = hex.character(values[*c as usize], buffer);
+            hex = hex.character(*c, buffer);
         }
         hex
     }
 
-    // What was read, taken for the whole.
-    pub fn payload(self) -> Payload
+    // How many bytes of the buffer HEX stands for, what was read being the whole of it: none for a character that is neither a digit nor a
+    // space, and for an odd count of digits.
+    pub fn payload(self) -> Option<usize>
         ensures { result ≡ answer_of self }
     {
-        if self.stray {
-            return Payload::Fault;
+        if self.stray || self.high.is_some() {
+            return None;
         }
-        if self.odd {
-            return Payload::Fault;
-        }
-        Payload::Bytes(self.len)
+        Some(self.len)
     }
 
-    // HEX with one character more, given by its value in the table.
-    fn character(self, value: u8, buffer: &mut [u8]) -> Hex
-        ensures value { result ≡ with_character self (length buffer.old) (sign_at value) }
-        ensures buffer_after { buffer.new ≡ stored self buffer.old (sign_at value) }
+    // HEX with one character more.
+    fn character(self, c: u8, buffer: &mut [u8]) -> Hex
+        ensures value { result ≡ with_character self (length buffer.old) (sign_of c) }
+        ensures buffer_after { buffer.new ≡ stored self buffer.old (sign_of c) }
     {
-        if value < 16 {
-            return self.digit(value, buffer);
-        }
-        if value == 16 {
-            return self;
-        }
-        Hex {
-            len: self.len,
-            odd: self.odd,
-            high: self.high,
-            stray: true,
+        match digit_value(c) {
+            Some(value) => self.digit(value, buffer),
+            None if c == b' ' => self,
+            None => Hex {
+                stray: true,
+                ..self
+            },
         }
     }
 
@@ -99,26 +69,47 @@ impl Hex {
         ensures value { result ≡ with_digit self (length buffer.old) value }
         ensures buffer_after { buffer.new ≡ stored_digit self buffer.old value }
     {
-        let len = self.len;
-        if self.odd {
-            let mut next = len;
-            if len < buffer.len() {
-                buffer[len] = self.high % 16 * 16 + value;
-                next = len + 1;
-            }
+        let Some(high) = self.high else {
             return Hex {
-                len: next,
-                odd: false,
-                high: 0,
-                stray: self.stray,
+                high: Some(value),
+                ..self
             };
+        };
+        let mut len = self.len;
+        if len < buffer.len() {
+            buffer[len] = high % 16 * 16 + value;
+            len += 1;
         }
         Hex {
             len,
-            odd: true,
-            high: value,
-            stray: self.stray,
+            high: None,
+            ..self
         }
+    }
+}
+
+// The value of a hexadecimal digit.
+fn digit_value(c: u8) -> Option<u8>
+    ensures { result ≡ sign_value (sign_of c) }
+{
+    match c {
+        b'0' => Some(0),
+        b'1' => Some(1),
+        b'2' => Some(2),
+        b'3' => Some(3),
+        b'4' => Some(4),
+        b'5' => Some(5),
+        b'6' => Some(6),
+        b'7' => Some(7),
+        b'8' => Some(8),
+        b'9' => Some(9),
+        b'A' | b'a' => Some(10),
+        b'B' | b'b' => Some(11),
+        b'C' | b'c' => Some(12),
+        b'D' | b'd' => Some(13),
+        b'E' | b'e' => Some(14),
+        b'F' | b'f' => Some(15),
+        _ => None,
     }
 }
 

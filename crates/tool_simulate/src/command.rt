@@ -1,14 +1,8 @@
 // What a line asks for: its command, with its numbers and HEX, or what is wrong with it.
-ghost use Rattle.std.specs.Prelude.{◌<◌};
-
-use crate::verb::{Bytes, Number, Shape, Verb, shape_of, verb_of};
+use crate::verb::{Bytes, Shape, Verb, shape_of, verb_of};
 use tool_numerals::decimal::Decimal;
-use tool_numerals::hex::{Hex, Payload};
 use tool_text::line::Line;
 use tool_text::line_error::LineError;
-
-// Which of the nodes 0 to 15 are made.
-pub type Made = [bool; 16];
 
 #[derive(Clone, Copy)]
 pub struct Command {
@@ -18,20 +12,12 @@ pub struct Command {
     pub second: u64,
     pub third: u64,
     pub fourth: u64,
-    // how many bytes HEX stands for
-    pub len: usize,
-    // whether `-` stands in its place
-    pub none: bool,
-}
-
-// The place of the node with this number; a command names no larger one.
-pub fn index(number: u64) -> usize
-    ensures { result < 16 }
-{
-    (number % 16) as usize
+    // how many bytes HEX stands for; none where `-` stands in its place
+    pub hex: Option<usize>,
 }
 
 // The number as a byte; a command's roles, frame types and identifiers are no larger.
+// Kept: a remainder, since `u8::try_from` would answer an error that cannot be
 pub fn byte(number: u64) -> u8 {
     (number % 256) as u8
 }
@@ -41,66 +27,64 @@ pub fn counter(number: u64) -> u32 {
     (number % 4294967296) as u32
 }
 
-// What a line asks for; nothing, if it is empty or a comment.
-pub fn command_of(line: Line, made: Made) -> Command {
-    let head = line.head;
-    let tail = line.tail;
-    let first = head.first;
-    let second = head.second;
-    let third = tail.number;
-    let next = tail.next;
-    let fourth = next.number;
-    Command {
-        verb: verb_in(line, made),
+// What a line asks for; none, if it is empty or a comment. The error is the first thing that is wrong with it; whether its numbers name
+// nodes is judged later.
+pub fn command_of(line: Line) -> Result<Option<Command>, LineError> {
+    if line.is_silent() {
+        return Ok(None);
+    }
+    let verb = verb_of(line)?;
+    judge(line, verb)?;
+    let [first, second, third, fourth] = numbers_of(line);
+    Ok(Some(Command {
+        verb,
         first: value(first),
         second: value(second),
         third: value(third),
         fourth: value(fourth),
-        len: tail.hex.len,
-        none: is_none(line),
-    }
+        hex: hex_of(line),
+    }))
+}
+
+// The words after the command, as numbers.
+fn numbers_of(line: Line) -> [Decimal; 4] {
+    let head = line.head;
+    let tail = line.tail;
+    let next = tail.next;
+    [head.first, head.second, tail.number, next.number]
 }
 
 // The number, or 0 where there is none.
 fn value(number: Decimal) -> u64 {
-    match number {
-        Decimal::Number(value) => value,
-        _ => 0,
-    }
+    number.value().unwrap_or(0)
 }
 
-fn verb_in(line: Line, made: Made) -> Verb {
-    if line.is_silent() {
-        return Verb::Nothing;
+fn hex_of(line: Line) -> Option<usize> {
+    if is_none(line) {
+        return None;
     }
-    judged(line, verb_of(line), made)
+    Some(line.tail.hex.len)
 }
 
-// The command, or the first thing that is wrong with its line.
-fn judged(line: Line, verb: Verb, made: Made) -> Verb {
+// The first thing that is wrong with a command's line, if anything is.
+fn judge(line: Line, verb: Verb) -> Result<(), LineError> {
     let shape = shape_of(verb);
     if !has_words(line, shape) {
-        return Verb::Wrong(LineError::Command);
+        return Err(LineError::Command);
     }
     if !has_numbers(line, shape) {
-        return Verb::Wrong(LineError::Number);
+        return Err(LineError::Number);
     }
     if !has_bytes(line, shape, verb) {
-        return Verb::Wrong(LineError::Hex);
+        return Err(LineError::Hex);
     }
-    if !names_nodes(line, verb, made) {
-        return Verb::Wrong(LineError::Node);
-    }
-    verb
+    Ok(())
 }
 
 // Whether the line has the words that its command asks for.
 fn has_words(line: Line, shape: Shape) -> bool {
-    if shape.words == 0 {
-        return false;
-    }
     let bytes = shape.bytes;
-    if let Bytes::Rest = bytes {
+    if let Some(Bytes::Rest) = bytes {
         return shape.words <= line.words();
     }
     shape.words == line.words()
@@ -108,36 +92,17 @@ fn has_words(line: Line, shape: Shape) -> bool {
 
 // Whether the numbers that the command asks for are such.
 fn has_numbers(line: Line, shape: Shape) -> bool {
-    let head = line.head;
-    let tail = line.tail;
-    let first = head.first;
-    let second = head.second;
-    let third = tail.number;
-    let next = tail.next;
-    let fourth = next.number;
-    let of_first = shape.first;
-    let of_second = shape.second;
-    let of_third = shape.third;
-    let of_fourth = shape.fourth;
-    fits(of_first, first)
-        && fits(of_second, second)
-        && fits(of_third, third)
-        && fits(of_fourth, fourth)
+    let numbers = numbers_of(line);
+    let most = shape.numbers;
+    numbers
+        .iter()
+        .zip(most.iter())
+        .all(|(number, most)| is_within(*number, *most))
 }
 
 // Whether the word is what is asked of it as a number.
-fn fits(asked: Number, number: Decimal) -> bool {
-    match asked {
-        Number::No => true,
-        Number::UpTo(most) => is_within(number, most),
-    }
-}
-
-fn is_within(number: Decimal, most: u64) -> bool {
-    match number {
-        Decimal::Number(value) => value <= most,
-        _ => false,
-    }
+fn is_within(number: Decimal, most: Option<u64>) -> bool {
+    most.is_none_or(|most| number.value().is_some_and(|number| number <= most))
 }
 
 // Whether the bytes that the command asks for stand there; `-` in the place of a new node's HEX stands for none.
@@ -150,16 +115,9 @@ fn has_bytes(line: Line, shape: Shape, verb: Verb) -> bool {
     let hex = line.tail.hex;
     let bytes = shape.bytes;
     match bytes {
-        Bytes::No => true,
-        Bytes::Rest => is_hex(hex),
-        Bytes::Two => is_hex(hex) && hex.len == 2,
-    }
-}
-
-fn is_hex(hex: Hex) -> bool {
-    match hex.payload() {
-        Payload::Bytes(_) => true,
-        Payload::Fault => false,
+        None => true,
+        Some(Bytes::Rest) => hex.payload().is_some(),
+        Some(Bytes::Two) => hex.payload() == Some(2),
     }
 }
 
@@ -170,28 +128,4 @@ fn is_none(line: Line) -> bool {
         return false;
     }
     tail.word.is(b"-")
-}
-
-// Whether the numbers name nodes: a turn's two different ones, that of a new one need not be made, and `room` names none.
-fn names_nodes(line: Line, verb: Verb, made: Made) -> bool {
-    let head = line.head;
-    let first = head.first;
-    let second = head.second;
-    match verb {
-        Verb::Make(_) => value(first) < 16,
-        Verb::Room => true,
-        Verb::Turn => are_two(value(first), value(second), made),
-        _ => is_made(value(first), made),
-    }
-}
-
-// Whether two different nodes have these numbers.
-fn are_two(first: u64, second: u64, made: Made) -> bool {
-    first != second && is_made(first, made) && is_made(second, made)
-}
-
-// Whether a node has this number.
-fn is_made(number: u64, made: Made) -> bool {
-    let at = index(number);
-    number < 16 && made[at]
 }

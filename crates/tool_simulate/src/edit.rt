@@ -1,10 +1,9 @@
 // The bench command `set I FIELD VALUE`: what it puts into a node.
+use tool_text::first;
 use tool_text::word::Word;
 
 #[derive(Clone, Copy)]
 pub enum Edit {
-    // there is no such field, or no such value of it
-    Unknown,
     // a number
     Role,
     Count,
@@ -31,74 +30,38 @@ pub enum Edit {
     NoPending,
 }
 
-// What the field's name and the value ask for. Numbers and bytes are judged later.
-pub fn edit_of(field: Word, value: Word) -> Edit {
-    if field.is(b"phase") {
-        return phase_of(value);
+// What the field's name and the value ask for; none where there is no such field, or no such value of it. Numbers and bytes are judged
+// later.
+pub fn edit_of(field: Word, value: Word) -> Option<Edit> {
+    let letters = field.letters;
+    match first(&letters, field.len) {
+        b"phase" => phase_of(value),
+        b"address" if value.is(b"none") => Some(Edit::NoAddress),
+        b"address" => Some(Edit::Address),
+        b"lease" if value.is(b"none") => Some(Edit::NoLease),
+        b"lease" => Some(Edit::Lease),
+        b"active" if value.is(b"none") => Some(Edit::NoActive),
+        b"active" if value.is(b"pending") => Some(Edit::ActiveOfPending),
+        b"pending" if value.is(b"none") => Some(Edit::NoPending),
+        b"pending" if value.is(b"active") => Some(Edit::PendingOfActive),
+        b"role" => Some(Edit::Role),
+        b"count" => Some(Edit::Count),
+        b"clock" => Some(Edit::Clock),
+        b"sent" => Some(Edit::Sent),
+        b"timeout" => Some(Edit::Timeout),
+        b"received" => Some(Edit::Received),
+        b"counter" => Some(Edit::Counter),
+        _ => None,
     }
-    if field.is(b"address") {
-        return one_of(value, b"none", Edit::NoAddress, Edit::Address);
-    }
-    if field.is(b"lease") {
-        return one_of(value, b"none", Edit::NoLease, Edit::Lease);
-    }
-    if field.is(b"active") {
-        let copied = one_of(value, b"pending", Edit::ActiveOfPending, Edit::Unknown);
-        return one_of(value, b"none", Edit::NoActive, copied);
-    }
-    if field.is(b"pending") {
-        let copied = one_of(value, b"active", Edit::PendingOfActive, Edit::Unknown);
-        return one_of(value, b"none", Edit::NoPending, copied);
-    }
-    number_of(field)
 }
 
-// The one edit if the value is this word, else the other.
-fn one_of(value: Word, word: &[u8], edit: Edit, other: Edit) -> Edit {
-    if value.is(word) {
-        return edit;
+fn phase_of(value: Word) -> Option<Edit> {
+    let letters = value.letters;
+    match first(&letters, value.len) {
+        b"idle" => Some(Edit::Idle),
+        b"waiting" => Some(Edit::Waiting),
+        b"joined" => Some(Edit::Joined),
+        b"gave-up" => Some(Edit::GaveUp),
+        _ => None,
     }
-    other
-}
-
-fn phase_of(value: Word) -> Edit {
-    if value.is(b"idle") {
-        return Edit::Idle;
-    }
-    if value.is(b"waiting") {
-        return Edit::Waiting;
-    }
-    if value.is(b"joined") {
-        return Edit::Joined;
-    }
-    if value.is(b"gave-up") {
-        return Edit::GaveUp;
-    }
-    Edit::Unknown
-}
-
-// A field that takes a number, or two.
-fn number_of(field: Word) -> Edit {
-    if field.is(b"role") {
-        return Edit::Role;
-    }
-    if field.is(b"count") {
-        return Edit::Count;
-    }
-    if field.is(b"clock") {
-        return Edit::Clock;
-    }
-    if field.is(b"sent") {
-        return Edit::Sent;
-    }
-    if field.is(b"timeout") {
-        return Edit::Timeout;
-    }
-    if field.is(b"received") {
-        return Edit::Received;
-    }
-    if field.is(b"counter") {
-        return Edit::Counter;
-    }
-    Edit::Unknown
 }

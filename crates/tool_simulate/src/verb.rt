@@ -1,16 +1,12 @@
 // The commands by their first words, and which words stand after each.
 use crate::edit::{Edit, edit_of};
 use protocol_version::Version;
+use tool_text::first;
 use tool_text::line::Line;
 use tool_text::line_error::LineError;
-use tool_text::word::Word;
 
 #[derive(Clone, Copy)]
 pub enum Verb {
-    // an empty line or a comment
-    Nothing,
-    // a line that is no command
-    Wrong(LineError),
     Set(Edit),
     // a node of a form
     Make(Version),
@@ -28,19 +24,9 @@ pub enum Verb {
     Show,
 }
 
-// What is asked of a word as a number.
-#[derive(Clone, Copy)]
-pub enum Number {
-    // nothing: there is no such word, or it is none
-    No,
-    // that it is one, and no larger
-    UpTo(u64),
-}
-
 // What is asked of a word, or of the line's rest, as bytes.
 #[derive(Clone, Copy)]
 pub enum Bytes {
-    No,
     // HEX to the line's end
     Rest,
     // a word of two bytes
@@ -50,144 +36,80 @@ pub enum Bytes {
 // What is asked of the words of a line.
 #[derive(Clone, Copy)]
 pub struct Shape {
-    // how many there are before HEX, the command among them; for what is no command, 0
+    // how many there are before HEX, the command among them
     pub words: usize,
-    pub first: Number,
-    pub second: Number,
-    pub third: Number,
-    pub fourth: Number,
-    pub bytes: Bytes,
+    // the largest number that each word after the command may be; none where it need not be a number
+    pub numbers: [Option<u64>; 4],
+    // none where no bytes are asked for
+    pub bytes: Option<Bytes>,
 }
 
-const ANY: Number = Number::UpTo(u64::MAX);
+const ANY: Option<u64> = Some(u64::MAX);
 
 // A role, a frame type, a key identifier or a count of sendings is a byte.
-const BYTE: Number = Number::UpTo(255);
+const BYTE: Option<u64> = Some(255);
 
-const COUNTER: Number = Number::UpTo(4294967295);
+const COUNTER: Option<u64> = Some(4294967295);
 
 // A payload's length.
-const ROOM: Number = Number::UpTo(256);
+const ROOM: Option<u64> = Some(256);
 
 // The command that the line's first word names, with what a bench command's other words do.
-pub fn verb_of(line: Line) -> Verb {
+pub fn verb_of(line: Line) -> Result<Verb, LineError> {
     let head = line.head;
     let word = head.command;
-    if word.is(b"set") {
-        return Verb::Set(edit_of(head.name, line.tail.word));
-    }
-    named(word)
-}
-
-fn named(word: Word) -> Verb {
-    if word.is(b"turn") {
-        return Verb::Turn;
-    }
-    if word.is(b"show") {
-        return Verb::Show;
-    }
-    if word.is(b"holds") {
-        return Verb::Holds;
-    }
-    made(word)
-}
-
-// A command that makes a node or changes what is lent, or else one of joining.
-fn made(word: Word) -> Verb {
-    if word.is(b"node") {
-        return Verb::Make(Version::Draft);
-    }
-    if word.is(b"new-node") {
-        return Verb::Make(Version::Published);
-    }
-    if word.is(b"room") {
-        return Verb::Room;
-    }
-    timed(word)
-}
-
-// A command of joining and of what is delivered, or else one of frames.
-fn timed(word: Word) -> Verb {
-    if word.is(b"start") {
-        return Verb::Start;
-    }
-    if word.is(b"poll") {
-        return Verb::Poll;
-    }
-    if word.is(b"answer") {
-        return Verb::Answer;
-    }
-    if word.is(b"update") {
-        return Verb::Update;
-    }
-    framed(word)
-}
-
-// A command of frames, or else none at all.
-fn framed(word: Word) -> Verb {
-    if word.is(b"send") {
-        return Verb::Send;
-    }
-    if word.is(b"receive") {
-        return Verb::Receive;
-    }
-    if word.is(b"verified") {
-        return Verb::Verified;
-    }
-    Verb::Wrong(LineError::Command)
+    let letters = word.letters;
+    let verb = match first(&letters, word.len) {
+        b"set" => Verb::Set(edit_of(head.name, line.tail.word).ok_or(LineError::Command)?),
+        b"node" => Verb::Make(Version::Draft),
+        b"new-node" => Verb::Make(Version::Published),
+        b"room" => Verb::Room,
+        b"start" => Verb::Start,
+        b"poll" => Verb::Poll,
+        b"answer" => Verb::Answer,
+        b"update" => Verb::Update,
+        b"holds" => Verb::Holds,
+        b"send" => Verb::Send,
+        b"receive" => Verb::Receive,
+        b"verified" => Verb::Verified,
+        b"turn" => Verb::Turn,
+        b"show" => Verb::Show,
+        _ => return Err(LineError::Command),
+    };
+    Ok(verb)
 }
 
 pub fn shape_of(verb: Verb) -> Shape {
     match verb {
-        Verb::Nothing => shaped(0, Number::No, Number::No, Bytes::No),
-        Verb::Wrong(_) => shaped(0, Number::No, Number::No, Bytes::No),
         Verb::Set(edit) => edit_shape(edit),
-        Verb::Make(_) => shaped(3, BYTE, Number::No, Bytes::Rest),
-        Verb::Room => Shape {
-            words: 2,
-            first: ROOM,
-            second: Number::No,
-            third: Number::No,
-            fourth: Number::No,
-            bytes: Bytes::No,
-        },
-        Verb::Start => shaped(4, ANY, ANY, Bytes::No),
-        Verb::Poll | Verb::Holds => shaped(3, ANY, Number::No, Bytes::No),
-        Verb::Answer | Verb::Update => shaped(3, ANY, Number::No, Bytes::Rest),
-        Verb::Send => shaped(3, BYTE, Number::No, Bytes::No),
-        Verb::Receive | Verb::Verified => shaped(4, BYTE, BYTE, Bytes::No),
-        Verb::Turn => shaped(4, ANY, BYTE, Bytes::No),
-        Verb::Show => shaped(2, Number::No, Number::No, Bytes::No),
+        Verb::Make(_) => shaped(3, [ANY, BYTE, None, None], Some(Bytes::Rest)),
+        Verb::Room => shaped(2, [ROOM, None, None, None], None),
+        Verb::Start => shaped(4, [ANY, ANY, ANY, None], None),
+        Verb::Poll | Verb::Holds => shaped(3, [ANY, ANY, None, None], None),
+        Verb::Answer | Verb::Update => shaped(3, [ANY, ANY, None, None], Some(Bytes::Rest)),
+        Verb::Send => shaped(3, [ANY, BYTE, None, None], None),
+        Verb::Receive | Verb::Verified => shaped(4, [ANY, BYTE, BYTE, None], None),
+        Verb::Turn => shaped(4, [ANY, ANY, BYTE, None], None),
+        Verb::Show => shaped(2, [ANY, None, None, None], None),
     }
 }
 
 // The field's name is no number; its value is one, or two bytes, or a word that stands for itself.
 fn edit_shape(edit: Edit) -> Shape {
     match edit {
-        Edit::Unknown => shaped(0, Number::No, Number::No, Bytes::No),
-        Edit::Role | Edit::Count => shaped(4, Number::No, BYTE, Bytes::No),
-        Edit::Clock | Edit::Sent | Edit::Timeout => shaped(4, Number::No, ANY, Bytes::No),
-        Edit::Received | Edit::Lease => shaped(4, Number::No, ANY, Bytes::No),
-        Edit::Address => shaped(4, Number::No, Number::No, Bytes::Two),
-        Edit::Counter => Shape {
-            words: 5,
-            first: ANY,
-            second: Number::No,
-            third: BYTE,
-            fourth: COUNTER,
-            bytes: Bytes::No,
-        },
-        _ => shaped(4, Number::No, Number::No, Bytes::No),
+        Edit::Role | Edit::Count => shaped(4, [ANY, None, BYTE, None], None),
+        Edit::Clock | Edit::Sent | Edit::Timeout => shaped(4, [ANY, None, ANY, None], None),
+        Edit::Received | Edit::Lease => shaped(4, [ANY, None, ANY, None], None),
+        Edit::Address => shaped(4, [ANY, None, None, None], Some(Bytes::Two)),
+        Edit::Counter => shaped(5, [ANY, None, BYTE, COUNTER], None),
+        _ => shaped(4, [ANY, None, None, None], None),
     }
 }
 
-fn shaped(words: usize, second: Number, third: Number, bytes: Bytes) -> Shape {
+fn shaped(words: usize, numbers: [Option<u64>; 4], bytes: Option<Bytes>) -> Shape {
     Shape {
         words,
-        first: ANY,
-        second,
-        third,
-        fourth: Number::No,
+        numbers,
         bytes,
     }
 }

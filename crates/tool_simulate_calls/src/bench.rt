@@ -1,7 +1,7 @@
 // The bench command `set`: puts a value into a node by hand, and judges nothing.
 use link_key_counters::{CountedSet, none_counted};
 use node::Node;
-use node_attempt::{Attempt, Phase};
+use node_attempt::Phase;
 use tool_simulate::Edit;
 use tool_simulate::command::byte;
 use tool_text::word::Word;
@@ -45,11 +45,10 @@ fn with_lease(mut node: Node, leased: bool, lease: u64) -> Node {
 // The first two bytes; lease and time of receipt are those that it had, or that were set.
 fn with_address(mut node: Node, bytes: &[u8]) -> Node {
     let word = Word::new().more(bytes);
-    let letters = word.letters;
+    let [high, low, ..] = word.letters;
     let mut address = node.address;
     let mut value = address.value;
-    let two = [letters[0], letters[1]];
-    value.bytes = two;
+    value.bytes = [high, low];
     address.value = value;
     address.held = true;
     node.address = address;
@@ -62,15 +61,7 @@ fn without_address(mut node: Node) -> Node {
 }
 
 fn with_phase(mut node: Node, phase: Phase) -> Node {
-    let was = node.attempt;
-    let attempt = Attempt {
-        phase,
-        clock: was.clock,
-        sent: was.sent,
-        timeout: was.timeout,
-        count: was.count,
-    };
-    node.attempt = attempt;
+    node.attempt.phase = phase;
     node
 }
 
@@ -90,42 +81,33 @@ fn with_sets(mut node: Node, edit: Edit) -> Node {
     node
 }
 
-// The node with this next counter at its key with the identifier, active or else pending; found is false where it has no such key.
-#[derive(Clone, Copy)]
-pub struct Recounted {
-    pub found: bool,
-    pub node: Node,
-}
-
-pub fn with_counter(mut node: Node, identifier: u8, counter: u32) -> Recounted {
+// Sets the next counter of the node's key with the identifier, active or else pending; none where it has no such key.
+pub fn set_counter(node: &mut Node, identifier: u8, counter: u32) -> Option<()> {
     let mut sets = node.sets;
     let active = sets.active;
     let pending = sets.pending;
-    let is_active = active.set.has(identifier);
-    let is_pending = pending.set.has(identifier);
-    if is_active {
+    if active.set.has(identifier) {
         sets.active = counted(active, identifier, counter);
-    } else if is_pending {
+    } else if pending.set.has(identifier) {
         sets.pending = counted(pending, identifier, counter);
+    } else {
+        return None;
     }
     node.sets = sets;
-    Recounted {
-        found: is_active || is_pending,
-        node,
-    }
+    Some(())
 }
 
 // The set with this counter at its first key with the identifier.
-fn counted(held: CountedSet, identifier: u8, counter: u32) -> CountedSet {
-    let set = held.set;
-    let keys = set.keys;
+fn counted(mut held: CountedSet, identifier: u8, counter: u32) -> CountedSet {
+    let keys = held.set.keys;
     let mut counters = held.counters;
-    for i in 0..8 {
-        let key = keys[i];
-        if key.identifier == identifier {
-            counters[i] = counter;
-            return CountedSet { set, counters };
-        }
+    let first = keys
+        .iter()
+        .zip(counters.iter_mut())
+        .find(|(key, _)| key.identifier == identifier);
+    if let Some((_, at)) = first {
+        *at = counter;
     }
+    held.counters = counters;
     held
 }

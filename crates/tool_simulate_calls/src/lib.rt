@@ -4,4 +4,4 @@
 mod bench;
 mod node_call;
 
-pub use node_call::{no_node, perform};
+pub use node_call::perform;

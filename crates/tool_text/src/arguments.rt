@@ -3,7 +3,7 @@ use crate::first;
 use crate::word::Word;
 use std::env::{Env, FillError};
 
-#[derive(Clone, Copy)]
+#[derive(Clone, Copy, PartialEq, Eq)]
 pub enum Mode {
     // answers alone
     Answers,
@@ -29,11 +29,7 @@ impl Mode {
 // Whether the tool was started with this argument.
 pub fn is_given(rt: &impl Env, i: usize) -> bool {
     let mut letters = [0u8; 16];
-    match rt.arg(i, &mut letters) {
-        Ok(_) => true,
-        Err(FillError::TooLong) => true,
-        Err(FillError::NotPresent) => false,
-    }
+    !matches!(rt.arg(i, &mut letters), Err(FillError::NotPresent))
 }
 
 // The argument as a word; one of more than 16 letters is like no option.

@@ -1,41 +1,30 @@
 // Standard input, read through a buffer and taken part by part, each part within a line.
-ghost use Rattle.std.specs.Prelude.{◌≤◌, length};
-ghost use Rattle.tool_text.specs.Line.{Within};
+ghost use Rattle.std.specs.Prelude.{◌≡◌, ◌≤◌, ◌<◌, ◌+◌, true, length};
 
-use crate::find::find;
 use std::io;
 use std::io::{Read, Stdin};
 
-// Which bytes of the buffer were read and not yet taken.
-#[derive(Clone, Copy)]
+#[derive(Drop)]
 pub struct Input {
     // from where is read
     from: Stdin,
     // why the last read failed, if it did
     failure: Option<io::Error>,
-    pub at: usize,
-    pub end: usize,
+    // Kept: a length beside the buffer, since a `BufReader` allocates and a carriage return that waits is put before what comes
+    bytes: [u8; 65536],
+    // which of them were read and not yet taken
+    at: usize,
+    end: usize,
+    ghost ordered: { at ≤ end },
+    ghost in_bounds: { end ≤ 65536 },
 }
 
-// What the buffer has of a line: from where to where, where the input goes on, and whether the line ends there.
+// What the buffer has of a line, how many bytes that takes, and whether the line ends there.
 #[derive(Clone, Copy)]
-pub struct Part {
-    pub from: usize,
-    pub to: usize,
-    pub next: usize,
+pub struct Part<'a> {
+    pub text: &'a [u8],
+    pub taken: usize,
     pub complete: bool,
-}
-
-impl Part {
-    // Its bytes; none where the bytes are not those that it was found in.
-    pub fn of<'a>(self, bytes: &'a [u8]) -> &'a [u8] {
-        let from = self.from;
-        let to = self.to;
-        if to < from || bytes.len() < to {
-            return &bytes[0..0];
-        }
-        &bytes[from..to]
-    }
 }
 
 impl Input {
@@ -43,91 +32,74 @@ impl Input {
         Input {
             from,
             failure: None,
+            bytes: [0; 65536],
             at: 0,
             end: 0,
         }
     }
 
     // Reads on, where all was taken but perhaps a carriage return, which then stands before what comes. Nothing comes at the input's end,
-    // or where it cannot be read.
-    pub fn fill(self, bytes: &mut [u8]) -> Input {
-        if bytes.len() == 0 {
-            return Input::new(self.from);
-        }
-        let mut from = self.from;
-        let read = from.read(&mut bytes[1..]);
-        match read {
-            Ok(0) => Input::new(from),
-            Ok(got) => {
-                bytes[0] = b'\r';
-                Input {
-                    from,
-                    failure: None,
-                    at: (self.end <= self.at) as usize,
-                    end: got + 1,
-                }
+    // or where it cannot be read. Whether anything came.
+    pub fn fill(&mut self) -> bool {
+        let waits = self.at < self.end;
+        let got = match self.from.read(&mut self.bytes[1..]) {
+            Ok(got) => got,
+            Err(error) => {
+                self.failure = Some(error);
+                0
             }
-            Err(error) => Input {
-                from,
-                failure: Some(error),
-                at: 0,
-                end: 0,
-            },
+        };
+        self.at = 0;
+        self.end = 0;
+        if 0 < got {
+            self.bytes[0] = b'\r';
+            self.at = !waits as usize;
+            self.end = got + 1;
         }
+        0 < got
     }
 
     // The error of a read that failed, if one ended the input.
-    pub fn outcome(self) -> io::Result<()> {
-        match self.failure {
-            None => Ok(()),
-            Some(error) => Err(error),
-        }
+    pub fn outcome(&self) -> io::Result<()> {
+        self.failure.map_or(Ok(()), Err)
     }
 
     // What the buffer has of the next line. A carriage return before the line's end is passed over; one at the end of what was read waits,
     // since more of the line may come.
-    pub fn part(self, bytes: &[u8]) -> Part
-        ensures { Within (length bytes.now) result }
+    pub fn part(&self) -> Part<'_>
+        ensures text { length result.text.now ≤ result.taken }
+        ensures line_end { result.complete ≡ true → length result.text.now < result.taken }
+        ensures in_bounds { self.now.at + result.taken ≤ self.now.end }
     {
-        let end = least(self.end, bytes.len());
-        let at = least(self.at, end);
-        let stop = find(bytes, at, end, b'\n');
-        let to = before_return(bytes, at, stop);
-        if stop < end {
-            return Part {
-                from: at,
-                to,
-                next: stop + 1,
+        let unread = &self.bytes[self.at..self.end];
+        match unread.iter().position(|b| *b == b'\n') {
+            Some(stop) => Part {
+                text: before_return(&unread[..stop]),
+                taken: stop + 1,
                 complete: true,
-            };
+            },
+            None => {
+                let text = before_return(unread);
+                Part {
+                    text,
+                    taken: text.len(),
+                    complete: false,
+                }
+            }
         }
-        Part {
-            from: at,
-            to,
-            next: to,
-            complete: false,
-        }
+    }
+
+    // Goes on behind so many bytes, as a part takes them.
+    pub fn pass(&mut self, taken: usize)
+        ensures { self.old.at + taken ≤ self.old.end → self.new.at ≡ self.old.at + taken }
+    {
+        self.at = self.at.saturating_add(taken).min(self.end);
     }
 }
 
-// The end of a part of the bytes without the carriage return that may stand there.
-fn before_return(bytes: &[u8], from: usize, to: usize) -> usize
-    requires from_le_to { from ≤ to }
-    requires to_in_bounds { to ≤ length bytes.now }
-    ensures { (from ≤ result) × (result ≤ to) }
+// The bytes without the carriage return that may end them.
+fn before_return<'a>(bytes: &'a [u8]) -> &'a [u8]
+    ensures { length result.now ≤ length bytes.now }
 {
-    if from < to && bytes[to - 1] == b'\r' {
-        return to - 1;
-    }
-    to
-}
-
-// The lesser of two lengths.
-pub fn least(a: usize, b: usize) -> usize
-    ensures { result ≤ b }
-{
-    if a < b {
-        return a;
-    }
-    b
+    bytes.strip_suffix(b"\r").unwrap_or(bytes)
 }

@@ -1,8 +1,6 @@
 // A line of a tool's input: a command word, numbers, and HEX to the line's end, read in as many parts as it comes in.
-ghost use Rattle.std.specs.Prelude.{◌≤◌, length};
-
-use crate::find::find;
 use crate::parting::{Parted, Parting};
+use crate::split_word;
 use crate::word::Word;
 use tool_numerals::decimal::Decimal;
 use tool_numerals::hex::Hex;
@@ -55,21 +53,14 @@ pub struct Form {
     pub hex_at: usize,
     // whether that word may be a number, or stand for something by itself
     pub is_word: bool,
-    // the command after which that word stands for something by itself, and HEX begins after it; none, if it has no letter
-    pub apart: Word,
+    // the command after which that word stands for something by itself, and HEX begins after it, if there is one
+    pub apart: Option<&'static [u8]>,
 }
 
 #[derive(Clone, Copy)]
 pub struct Line {
     pub head: Head,
     pub tail: Tail,
-}
-
-// The head after a part, and where in the part HEX begins, or goes on: at its end, where it does not.
-#[derive(Clone, Copy)]
-struct HeadRead {
-    head: Head,
-    at: usize,
 }
 
 impl Head {
@@ -85,30 +76,25 @@ impl Head {
         }
     }
 
-    // The head with a part of the line; HEX begins at word `rest`.
-    fn more(self, part: &[u8], rest: usize) -> HeadRead
-        ensures { result.at ≤ length part.now }
-    {
+    // The head with a part of the line, and what the part has of HEX, which begins at word `rest`.
+    fn more<'a>(self, part: &'a [u8], rest: usize) -> (Head, &'a [u8]) {
         let mut head = self;
-        let mut at = 0;
-        while at < part.len() {
-            let end = find(part, at, part.len(), b' ');
-            head = head.next(&part[at..end], end < part.len(), rest);
+        let mut left = part;
+        while !left.is_empty() {
+            let (word, after) = split_word(left);
+            head = head.next(word, after.is_some(), rest);
             if head.full {
-                return HeadRead { head, at };
+                return (head, left);
             }
-            at = end + 1;
+            left = after.unwrap_or(&[]);
         }
-        HeadRead {
-            head,
-            at: part.len(),
-        }
+        (head, left)
     }
 
     // The head with what stands before a space, if it is one that comes then: a word, the rest of one, or nothing.
     fn next(mut self, part: &[u8], space: bool, rest: usize) -> Head {
         if !self.inside {
-            if part.len() == 0 {
+            if part.is_empty() {
                 return self;
             }
             if rest <= self.words {
@@ -122,30 +108,17 @@ impl Head {
     }
 
     // The head with a part of its last word.
-    fn word(self, part: &[u8]) -> Head {
-        let mut command = self.command;
-        let mut first = self.first;
-        let mut second = self.second;
-        let mut name = self.name;
-        let words = self.words;
-        match words {
-            1 => command = command.more(part),
-            2 => first = first.more(part),
+    fn word(mut self, part: &[u8]) -> Head {
+        match self.words {
+            1 => self.command = self.command.more(part),
+            2 => self.first = self.first.more(part),
             3 => {
-                second = second.more(part);
-                name = name.more(part);
+                self.second = self.second.more(part);
+                self.name = self.name.more(part);
             }
             _ => {}
         }
-        Head {
-            words,
-            inside: self.inside,
-            full: self.full,
-            command,
-            first,
-            second,
-            name,
-        }
+        self
     }
 }
 
@@ -165,37 +138,35 @@ impl Tail {
     // The tail with a part of the line.
     fn more(self, part: &[u8], is_word: bool, buffer: &mut [u8]) -> Tail {
         let parted = self.parted().more(part, buffer);
-        let end = word_end(part, is_word & !self.ended);
-        self.with(&part[0..end], &part[end..], parted)
+        let (word, after) = word_end(part, is_word && !self.ended);
+        self.with(word, after, parted)
     }
 
     // The same where HEX begins after the word.
     fn more_apart(self, part: &[u8], buffer: &mut [u8]) -> Tail {
-        let end = word_end(part, !self.ended);
-        let parted = self.parted().more(&part[end..], buffer);
-        self.with(&part[0..end], &part[end..], parted)
+        let (word, after) = word_end(part, !self.ended);
+        let parted = self.parted().more(after, buffer);
+        self.with(word, after, parted)
     }
 
     // HEX, and how a `+` parts it.
     pub fn parted(self) -> Parted {
-        let hex = self.hex;
-        let parting = self.parting;
-        Parted { hex, parting }
+        Parted {
+            hex: self.hex,
+            parting: self.parting,
+        }
     }
 
     // The tail with a part of the word by itself, what comes after it, and HEX.
     fn with(self, part: &[u8], after: &[u8], parted: Parted) -> Tail {
-        let number = self.number;
-        let hex = parted.hex;
-        let parting = parted.parting;
         Tail {
             word: self.word.more(part),
-            number: number.more(part),
-            ended: self.ended | (0 < after.len()),
-            extra: self.extra | has_word(after),
+            number: self.number.more(part),
+            ended: self.ended || !after.is_empty(),
+            extra: self.extra || has_word(after),
             next: self.next.more(after),
-            hex,
-            parting,
+            hex: parted.hex,
+            parting: parted.parting,
         }
     }
 }
@@ -212,15 +183,13 @@ impl Next {
 
     // The word with a part of the line, from where it begins or goes on.
     fn more(self, part: &[u8]) -> Next {
-        let start = word_from(part, self.begun);
-        let word = &part[start..];
-        let end = word_end(word, !self.ended);
-        let number = self.number;
+        let from = if self.begun { part } else { after_spaces(part) };
+        let (word, after) = word_end(from, !self.ended);
         Next {
-            number: number.more(&word[0..end]),
-            begun: self.begun | (0 < word.len()),
-            ended: self.ended | (end < word.len()),
-            extra: self.extra | has_word(&word[end..]),
+            number: self.number.more(word),
+            begun: self.begun || !from.is_empty(),
+            ended: self.ended || !after.is_empty(),
+            extra: self.extra || has_word(after),
         }
     }
 }
@@ -235,25 +204,19 @@ impl Line {
 
     // The line with its next part; HEX goes to the buffer.
     pub fn more(self, part: &[u8], form: Form, buffer: &mut [u8]) -> Line {
-        let read = self.head.more(part, form.hex_at);
-        let head = read.head;
-        let at = read.at;
-        if head.command.same(form.apart) {
-            return Line {
-                head,
-                tail: self.tail.more_apart(&part[at..], buffer),
-            };
-        }
-        Line {
-            head,
-            tail: self.tail.more(&part[at..], form.is_word, buffer),
-        }
+        let (head, hex) = self.head.more(part, form.hex_at);
+        let is_apart = form.apart.is_some_and(|command| head.command.is(command));
+        let tail = if is_apart {
+            self.tail.more_apart(hex, buffer)
+        } else {
+            self.tail.more(hex, form.is_word, buffer)
+        };
+        Line { head, tail }
     }
 
     // Whether it holds no command: it is empty, or a comment.
     pub fn is_silent(self) -> bool {
-        let command = self.head.command;
-        command.len == 0 || command.letters[0] == b'#'
+        self.head.command.is_silent()
     }
 
     // How many words it has, counted no further than two after the word at which HEX begins.
@@ -272,39 +235,26 @@ impl Line {
     }
 }
 
-// Where the word ends that goes on at the part's start, if one does: at the next space, or with the part.
-fn word_end(part: &[u8], goes_on: bool) -> usize
-    ensures { result ≤ length part.now }
-{
-    if goes_on {
-        return find(part, 0, part.len(), b' ');
+// The rest of the word that goes on at the part's start, if one does, and what comes after it.
+fn word_end<'a>(part: &'a [u8], goes_on: bool) -> (&'a [u8], &'a [u8]) {
+    if !goes_on {
+        return (&[], part);
     }
-    0
+    match part.iter().position(|b| *b == b' ') {
+        Some(space) => part.split_at(space),
+        None => (part, &[]),
+    }
 }
 
-// Where the next word begins: at the first byte that is no space, or at the part's end.
-fn word_start(part: &[u8]) -> usize
-    ensures { result ≤ length part.now }
-{
-    for i in 0..part.len() {
-        if part[i] != b' ' {
-            return i;
-        }
+// The part from the first byte on that is no space.
+fn after_spaces<'a>(part: &'a [u8]) -> &'a [u8] {
+    match part.iter().position(|b| *b != b' ') {
+        Some(start) => &part[start..],
+        None => &[],
     }
-    part.len()
-}
-
-// Where a word begins, or goes on that has begun.
-fn word_from(part: &[u8], begun: bool) -> usize
-    ensures { result ≤ length part.now }
-{
-    if begun {
-        return 0;
-    }
-    word_start(part)
 }
 
 // Whether there is anything but spaces.
 fn has_word(part: &[u8]) -> bool {
-    word_start(part) < part.len()
+    part.iter().any(|b| *b != b' ')
 }

@@ -1,8 +1,11 @@
-// What is wrong with a line that is no command, and its answer.
-use crate::output::{Buffer, Output};
+// What is wrong with a line, and its answer.
+use crate::output::Output;
+use std::error::Error;
+use std::fmt;
+use std::fmt::{Display, Formatter, Write};
 
 // In the order in which they are looked for.
-#[derive(Clone, Copy)]
+#[derive(Clone, Copy, Debug, PartialEq, Eq)]
 pub enum LineError {
     // the command is unknown, or a word is missing or too many
     Command,
@@ -18,16 +21,24 @@ pub enum LineError {
     File,
 }
 
-// The answer `error WORD`.
-pub fn put_line_error(out: Output, fault: LineError, buffer: &mut Buffer) -> Output {
-    let out = out.text(b"error ", buffer);
-    match fault {
-        LineError::Command => out.text(b"command", buffer),
-        LineError::Number => out.text(b"number", buffer),
-        LineError::Hex => out.text(b"hex", buffer),
-        LineError::Node => out.text(b"node", buffer),
-        LineError::Key => out.text(b"key", buffer),
-        LineError::Long => out.text(b"long", buffer),
-        LineError::File => out.text(b"file", buffer),
+impl Display for LineError {
+    fn fmt<W: Write>(&self, f: &mut Formatter<W>) -> fmt::Result {
+        write!(f, "error ")?;
+        match self {
+            LineError::Command => write!(f, "command"),
+            LineError::Number => write!(f, "number"),
+            LineError::Hex => write!(f, "hex"),
+            LineError::Node => write!(f, "node"),
+            LineError::Key => write!(f, "key"),
+            LineError::Long => write!(f, "long"),
+            LineError::File => write!(f, "file"),
+        }
     }
+}
+
+impl Error for LineError {}
+
+// The answer `error WORD`.
+pub fn put_line_error(out: &mut Output, error: LineError) {
+    write!(out, "{error}");
 }

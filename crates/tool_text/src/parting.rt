@@ -1,5 +1,5 @@
 // HEX that a word `+` parts in two: what is needed beside HEX itself to tell the two apart.
-use crate::find::find;
+use crate::line_error::LineError;
 use tool_numerals::hex::Hex;
 
 #[derive(Clone, Copy)]
@@ -7,9 +7,8 @@ pub struct Parting {
     // whether a word may begin here, and whether a `+` has begun one that may go on
     fresh: bool,
     waiting: bool,
-    // whether there was a word `+`, and how many bytes stand before it
-    parted: bool,
-    first: usize,
+    // how many bytes stand before the word `+`, once there was one
+    first: Option<usize>,
     // whether one of the two is no HEX, or there was a second `+`
     faulty: bool,
 }
@@ -21,14 +20,11 @@ pub struct Parted {
     pub parting: Parting,
 }
 
-// What HEX comes to where a `+` is to part it.
+// HEX that a `+` parts: how many bytes of the buffer stand before it, and how many in all.
 #[derive(Clone, Copy)]
-pub enum Parts {
-    // there is none
-    One,
-    Fault,
-    // so many bytes of the buffer before it, and so many in all
-    Two { first: usize, whole: usize },
+pub struct Halves {
+    pub first: usize,
+    pub whole: usize,
 }
 
 impl Parting {
@@ -36,8 +32,7 @@ impl Parting {
         Parting {
             fresh: true,
             waiting: false,
-            parted: false,
-            first: 0,
+            first: None,
             faulty: false,
         }
     }
@@ -46,8 +41,7 @@ impl Parting {
 impl Parted {
     // Both with a part of the line. Only where a `+` is about it goes character by character.
     pub fn more(self, part: &[u8], buffer: &mut [u8]) -> Parted {
-        let plus = find(part, 0, part.len(), b'+');
-        if plus < part.len() || self.parting.waiting {
+        if part.contains(&b'+') || self.parting.waiting {
             return self.characters(part, buffer);
         }
         self.plain(part, buffer)
@@ -55,76 +49,74 @@ impl Parted {
 
     fn characters(self, part: &[u8], buffer: &mut [u8]) -> Parted {
         let mut parted = self;
-        for i in 0..part.len() {
-            parted = parted.character(part[i], &part[i..i + 1], buffer);
+        for c in part {
+            parted = parted.character(*c, buffer);
         }
         parted
     }
 
-    fn character(self, c: u8, one: &[u8], buffer: &mut [u8]) -> Parted {
+    fn character(self, c: u8, buffer: &mut [u8]) -> Parted {
         let settled = self.settled(c == b' ');
         if c == b'+' {
             return settled.plus();
         }
-        settled.plain(one, buffer)
+        settled.plain(&[c], buffer)
     }
 
     // Characters none of which is a `+`.
-    fn plain(self, part: &[u8], buffer: &mut [u8]) -> Parted {
-        let mut hex = self.hex;
-        let mut parting = self.parting;
-        let stray = hex.stray;
-        hex.stray = false;
-        hex = hex.more(part, buffer);
-        parting.faulty = parting.faulty | hex.stray;
-        hex.stray = hex.stray | stray;
-        if 0 < part.len() {
-            parting.fresh = part[part.len() - 1] == b' ';
+    fn plain(mut self, part: &[u8], buffer: &mut [u8]) -> Parted {
+        let unread = Hex {
+            stray: false,
+            ..self.hex
+        };
+        let read = unread.more(part, buffer);
+        self.parting.faulty |= read.stray;
+        self.hex = Hex {
+            stray: self.hex.stray | read.stray,
+            ..read
+        };
+        if let Some(last) = part.last() {
+            self.parting.fresh = *last == b' ';
         }
-        Parted { hex, parting }
+        self
     }
 
     // A `+`, which is no digit, and may be a word by itself.
-    fn plus(self) -> Parted {
-        let mut hex = self.hex;
-        let mut parting = self.parting;
-        hex.stray = true;
-        parting.waiting = parting.fresh;
-        parting.faulty = parting.faulty | !parting.fresh;
-        parting.fresh = false;
-        Parted { hex, parting }
+    fn plus(mut self) -> Parted {
+        self.hex.stray = true;
+        self.parting.waiting = self.parting.fresh;
+        self.parting.faulty |= !self.parting.fresh;
+        self.parting.fresh = false;
+        self
     }
 
     // The `+` that waited, if one did, was a word by itself where one ends here; the first such parts HEX.
-    fn settled(self, ends: bool) -> Parted {
-        let hex = self.hex;
-        let mut parting = self.parting;
-        if !parting.waiting {
+    fn settled(mut self, ends: bool) -> Parted {
+        if !self.parting.waiting {
             return self;
         }
-        parting.waiting = false;
-        if !ends || parting.parted {
-            parting.faulty = true;
-            return Parted { hex, parting };
+        self.parting.waiting = false;
+        if !ends || self.parting.first.is_some() {
+            self.parting.faulty = true;
+            return self;
         }
-        parting.parted = true;
-        parting.first = hex.len;
-        parting.faulty = parting.faulty | hex.odd;
-        Parted { hex, parting }
+        self.parting.first = Some(self.hex.len);
+        self.parting.faulty |= self.hex.high.is_some();
+        self
     }
 
-    // What it comes to at the line's end.
-    pub fn parts(self) -> Parts {
-        let whole = self.settled(true);
-        if !whole.parting.parted {
-            return Parts::One;
+    // What it comes to at the line's end. Without a `+` a word is missing.
+    pub fn parts(self) -> Result<Halves, LineError> {
+        let Parted { hex, parting } = self.settled(true);
+        let Some(first) = parting.first else {
+            return Err(LineError::Command);
+        };
+        if parting.faulty || hex.high.is_some() {
+            return Err(LineError::Hex);
         }
-        if whole.parting.faulty || whole.hex.odd {
-            return Parts::Fault;
-        }
-        Parts::Two {
-            first: whole.parting.first,
-            whole: whole.hex.len,
-        }
+        Ok(Halves {
+            first,
+            whole: hex.len,
+        })
     }
 }

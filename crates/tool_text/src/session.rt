@@ -1,9 +1,8 @@
 // A tool's session: what is kept from line to line, and how the next line is read.
 use crate::arguments::Mode;
-use crate::input::Input;
+use crate::input::{Input, Part};
 use crate::line::{Form, Line};
-use crate::output::{Buffer, Output};
-use crate::reading::Reading;
+use crate::output::Output;
 use std::env::Env;
 use std::io;
 
@@ -17,101 +16,101 @@ pub struct Session {
     pub open: bool,
 }
 
-// A line, and the session after it.
-#[derive(Drop)]
-pub struct Asked {
-    pub line: Line,
-    pub session: Session,
-}
-
 impl Session {
     // The session that the tool's arguments ask for. Where that is help, the help is written, and no line is read.
-    pub fn begin(
-        rt: &impl Env,
-        input: Input,
-        out: Output,
-        help: &[u8],
-        buffer: &mut Buffer,
-    ) -> Session {
-        match Mode::asked(rt) {
-            Mode::Answers => Session::new(input, out, false, true),
-            Mode::Echo => Session::new(input, out, true, true),
-            Mode::Help => Session::new(input, put_help(out, help, buffer), false, false),
-        }
-    }
-
-    fn new(input: Input, out: Output, echo: bool, open: bool) -> Session {
-        Session {
+    pub fn begin(rt: &impl Env, input: Input, out: Output, help: &str) -> Session {
+        let mode = Mode::asked(rt);
+        let mut session = Session {
             input,
             out,
-            echo,
-            open,
+            echo: mode == Mode::Echo,
+            open: mode != Mode::Help,
+        };
+        if mode == Mode::Help {
+            put_help(&mut session.out, help);
         }
+        session
+    }
+
+    // Answers line after line until the input ends or nobody reads the answers, and writes what waits. The error is that of a write or a
+    // read that failed.
+    pub fn run<F: FnMut(&mut Session)>(mut self, mut answer_line: F) -> io::Result<()>
+        requires { F.IsAlwaysCallable answer_line }
+    {
+        // Kept: a counted loop, since a loop over a session that has no end needs a `Wait` bound
+        for _ in 0..u64::MAX {
+            if !self.open {
+                break;
+            }
+            answer_line(&mut self);
+        }
+        self.end()
     }
 
     // The next line, to its end or the input's; HEX goes to the payload.
-    pub fn next(
-        self,
-        form: Form,
-        bytes: &mut Buffer,
-        payload: &mut [u8],
-        buffer: &mut Buffer,
-    ) -> Asked {
-        let mut reading = Reading::new(self);
-        let mut line = Line::new();
+    pub fn next(&mut self, form: Form, payload: &mut [u8]) -> Line {
+        self.read_line(
+            Line::new(),
+            move |line, part| line.more(part, form, payload),
+        )
+    }
+
+    // Reads the next line, to its end or the input's: what `more` makes of `line` with each part of it.
+    pub fn read_line<L, F: FnMut(L, &[u8]) -> L>(&mut self, line: L, mut more: F) -> L
+        requires { F.IsAlwaysCallable more }
+    {
+        let mut line = line;
+        let mut begun = false;
+        // Kept: a counted loop, since a line may have any length, and a loop that may have no end needs a `Wait` bound
         for _ in 0..u64::MAX {
-            if !reading.goes_on {
+            let Part {
+                text,
+                taken,
+                complete,
+            } = self.input.part();
+            line = more(line, text);
+            if self.echo {
+                self.out.text(text);
+            }
+            begun = begun || !text.is_empty();
+            self.input.pass(taken);
+            if complete || !self.fill() {
+                if complete || begun {
+                    self.end_echo();
+                }
                 break;
             }
-            let part = reading.part(bytes);
-            line = line.more(part.of(bytes), form, payload);
-            reading = reading.after(part, bytes, buffer);
         }
-        let session = reading.session;
-        Asked { line, session }
+        line
     }
 
     // Writes what waits, after the last line. The error is that of a write or a read that failed.
-    pub fn end(self, buffer: &Buffer) -> io::Result<()> {
-        self.out.end(buffer)?;
+    pub fn end(&mut self) -> io::Result<()> {
+        self.out.end()?;
         self.input.outcome()
     }
 
-    // The session with this text written, where lines are.
-    pub(crate) fn echoed(mut self, text: &[u8], buffer: &mut Buffer) -> Session {
+    // The end of the line, where lines are written.
+    fn end_echo(&mut self) {
         if self.echo {
-            self.out = self.out.text(text, buffer);
+            self.out.byte(b'\n');
         }
-        self
     }
 
-    // The session at a line's end, if it is one.
-    pub(crate) fn ended(self, line_ends: bool, buffer: &mut Buffer) -> Session {
-        if line_ends {
-            return self.echoed(b"\n", buffer);
-        }
-        self
-    }
-
-    // The session with more of the input in the buffer; answers are written before it is asked for.
-    pub(crate) fn filled(self, bytes: &mut Buffer, buffer: &Buffer) -> Session {
-        let out = self.out.flush(buffer);
-        let input = self.input.fill(bytes);
-        let open = out.is_open() & (input.end != 0);
-        Session {
-            input,
-            out,
-            echo: self.echo,
-            open,
-        }
+    // Reads more of the input; answers are written before it is asked for. Whether the session goes on.
+    fn fill(&mut self) -> bool {
+        self.out.flush();
+        let came = self.input.fill();
+        self.open = came && self.out.is_open();
+        self.open
     }
 }
 
 // What the tool does, and what every tool's arguments are.
-fn put_help(out: Output, help: &[u8], buffer: &mut Buffer) -> Output {
-    out.text(help, buffer).text(
-        b"Commands come from standard input, one to a line; each is answered by one line.\n\
---echo writes each line before its answer, --help this text.\n",
-        buffer,
-    )
+fn put_help(out: &mut Output, help: &str) {
+    write!(
+        out,
+        "{help}Commands come from standard input, one to a line; each is answered by one line.\n\
+--echo writes each line before its answer, --help this text.\n"
+    );
 }

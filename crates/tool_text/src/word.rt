@@ -1,19 +1,15 @@
 // A word's first letters, enough to know a command by.
-use crate::first;
+
+ghost use Rattle.std.specs.Prelude.{◌≡◌, ◌≤◌, ◌<◌, ◌==◌, ◌||◌, [], take, slice_index};
 
 #[derive(Clone, Copy)]
 pub struct Word {
+    // Kept: a length beside the letters, since a line may have any length in constant memory and `String` allocates
     // how many letters it has; 25 stands for any more
     pub len: usize,
     // the first 24 of them
     pub letters: [u8; 24],
 }
-
-// The word with no letter.
-pub const NONE: Word = Word {
-    len: 0,
-    letters: [0; 24],
-};
 
 impl Word {
     pub fn new() -> Word {
@@ -24,39 +20,34 @@ impl Word {
     }
 
     // The word with its next part.
-    pub fn more(self, part: &[u8]) -> Word {
-        let mut letters = self.letters;
-        let mut len = self.len;
-        for letter in part {
-            if 24 <= len {
-                return Word { len: 25, letters };
-            }
-            letters[len] = *letter;
-            len += 1;
-        }
-        Word { len, letters }
+    pub fn more(mut self, part: &[u8]) -> Word {
+        let len = self.len;
+        let Some(room) = self.letters.get_mut(len..) else {
+            return self;
+        };
+        let kept = room.len().min(part.len());
+        room[..kept].copy_from_slice(&part[..kept]);
+        self.len = if kept < part.len() { 25 } else { len + kept };
+        self
+    }
+
+    // Its letters, none where it has more than 24.
+    pub fn name(&self) -> &[u8]
+        ensures short { self.now.len ≤ 24 → result.now ≡ take self.now.len self.now.letters }
+        ensures long { 24 < self.now.len → result.now ≡ [] }
+    {
+        self.letters.get(..self.len).unwrap_or(&[])
     }
 
     // Whether it is the word `name`, which has at most 24 letters.
     pub fn is(self, name: &[u8]) -> bool {
-        let letters = self.letters;
-        let shared = shared(&letters, name);
-        (shared == self.len) & (shared == name.len())
+        self.letters.get(..self.len) == Some(name)
     }
 
-    // Whether both are one word of at least one letter.
-    pub fn same(self, other: Word) -> bool {
-        let letters = other.letters;
-        (0 < other.len) & self.is(first(&letters, other.len))
+    // Whether a line with this command holds none: it is empty, or a comment.
+    pub fn is_silent(self) -> bool
+        ensures { result ≡ (self.len == 0 || slice_index self.letters 0 == 35) }
+    {
+        self.len == 0 || self.letters[0] == b'#'
     }
-}
-
-// How many letters, from the first on, are those of the name.
-fn shared(letters: &[u8; 24], name: &[u8]) -> usize {
-    for i in 0..24 {
-        if name.len() <= i || letters[i] != name[i] {
-            return i;
-        }
-    }
-    24
 }

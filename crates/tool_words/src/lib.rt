@@ -3,7 +3,6 @@
 #![tactic(auto)]
 
 pub mod argument;
-pub mod copies;
 pub mod line;
 pub mod shape;
 pub mod words;

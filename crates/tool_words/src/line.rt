@@ -1,34 +1,31 @@
-// The next line of a session, as words.
+// The lines of a session, as words.
 use crate::words::Words;
-use tool_text::output::Buffer;
-use tool_text::reading::Reading;
+use std::io;
+use tool_text::line_error::LineError;
+use tool_text::output::Output;
 use tool_text::session::Session;
 
-// A line, and the session after it.
-#[derive(Drop)]
-pub struct Asked {
-    pub words: Words,
-    pub session: Session,
+// What a tool keeps from line to line, and how it answers one.
+pub trait Tool {
+    // the word at which HEX begins, the command being word 0
+    const HEX_AT: usize;
+
+    // Answers a command, or says what is wrong with the line.
+    fn answer(&mut self, words: &Words, out: &mut Output) -> Result<(), LineError>;
 }
 
-// The next line, to its end or the input's; HEX begins at word `hex_at`.
-pub fn next_line(
-    session: Session,
-    hex_at: usize,
-    bytes: &mut Buffer,
-    store: &mut [u8],
-    buffer: &mut Buffer,
-) -> Asked {
-    let mut reading = Reading::new(session);
-    let mut words = Words::new();
-    for _ in 0..u64::MAX {
-        if !reading.goes_on {
-            break;
-        }
-        let part = reading.part(bytes);
-        words = words.more(part.of(bytes), hex_at, store);
-        reading = reading.after(part, bytes, buffer);
+// Answers line after line until the input ends or nobody reads the answers; an empty line and a comment are not answered.
+pub fn run<T: Tool>(session: Session, tool: &mut T) -> io::Result<()> {
+    session.run(|session| answer_line(session, tool))
+}
+
+fn answer_line<T: Tool>(session: &mut Session, tool: &mut T) {
+    let words = session.read_line(Words::new(), |words, part| words.more(part, T::HEX_AT));
+    if words.is_silent() {
+        return;
     }
-    let session = reading.session;
-    Asked { words, session }
+    if let Err(error) = tool.answer(&words, &mut session.out) {
+        write!(session.out, "{error}");
+    }
+    session.out.byte(b'\n');
 }

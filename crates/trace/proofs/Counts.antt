@@ -1,5 +1,6 @@
 -- Every count of the report is exact: a record adds one where the count's test holds of it and its answer,
 -- and the records are too few to fill a count.
+use Rattle.std.specs.Prelude.{Ok, Err}
 use Prim.Native.Nat.{ℕ, zero, suc, ◌+◌, ◌-◌, ◌^◌, ◌≤◌, ◌<◌}
 use mathlib.Core.Path.{◌≡◌, refl, sym, ◌∙◌, ap}
 use mathlib.Core.Bool.{Bool, true, false, cond}
@@ -10,8 +11,7 @@ use lib.ListN.{length, get_or, replicate, length-set}
 use lib.Seq.{get_or-set_same, get_or-set_other, ext_get_or}
 use borrow.Author.Tests.{lt-ltb, eqb-true, eqb-false, ne_eqb}
 use Rattle.refusal.specs.Refusal.{number_of, Numbered}
-use Rattle.refusal.specs.declared.Verdict.{Verdict}
-use Rattle.refusal.specs.declared.Verdict.TheVariants.{Accepted, Refused}
+use Rattle.refusal.specs.Verdict.{Verdict}
 use Rattle.trace.specs.Trace.{Record, new_node, start, join_answer, update, verified, poll, kind_of, Trace, over, stop, then, records_in}
 use Rattle.trace.specs.Calls.{call_of, Answered, answered, answers_of}
 use Rattle.trace.specs.Statistics.{count, of_kind, refusal_number, refused_with, did_switch, each_from}
@@ -40,8 +40,8 @@ unfolding raised
 raised-length l i = length-set l i (more (get_or l i 0))
 
 refused-length : (v : Verdict) (l : List ℕ) → length (refused v l) ≡ length l
-refused-length Accepted l = refl
-refused-length (Refused k) l = raised-length l (number_of k - 1)
+refused-length (Ok tt) l = refl
+refused-length (Err k) l = raised-length l (number_of k - 1)
 
 -- a kind is 1 or more
 kind-least : (r : Record) → 1 ≤ kind_of r
@@ -109,8 +109,8 @@ kinds-add i j r s z h =
 refused-one :
     (numbers : Numbered) (v : Verdict) (l : List ℕ) (i : ℕ) → i < length l → get_or l i 0 + 1 < 2 ^ 64 →
     get_or (refused v l) i 0 ≡ get_or l i 0 + cond (eqb (refusal_number v) (i + 1)) 1 0
-refused-one numbers Accepted l i j h = rw (ne_eqb 0 (i + 1) (λ e. omega arith)) (omega arith)
-refused-one numbers (Refused k) l i j h = raised-one l (number_of k) i (numbers.least k) j h (eqb (number_of k) (i + 1)) refl
+refused-one numbers (Ok tt) l i j h = rw (ne_eqb 0 (i + 1) (λ e. omega arith)) (omega arith)
+refused-one numbers (Err k) l i j h = raised-one l (number_of k) i (numbers.least k) j h (eqb (number_of k) (i + 1)) refl
 
 pub refusals-add : Numbered → (i : ℕ) → i < 22 → Adds (λ s. get_or s.statistics.refusals i 0) (refused_with (i + 1))
 unfolding afterwards

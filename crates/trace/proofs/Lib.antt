@@ -6,3 +6,4 @@ mod Counts
 mod Longest
 mod Whole
 mod ReplayRun
+pub mod Numbers

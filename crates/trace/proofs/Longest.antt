@@ -1,5 +1,6 @@
 -- The longest wait is exact: a node that does not wait accepts no join answer before an accepted start, and an accepted join answer ends
 -- the waiting, so the start that the walk keeps is the one whose wait the join answer ends.
+use Rattle.std.specs.Prelude.{Ok, Err}
 use Prim.Native.Nat.{ℕ, ◌-◌, ◌≤◌, ◌<◌}
 use mathlib.Core.Path.{◌≡◌, refl, sym, ◌∙◌, ap}
 use mathlib.Core.Bool.{Bool, true, false, cond}
@@ -7,8 +8,7 @@ use mathlib.Core.List.{List, [], ◌∷◌, ◌++◌}
 use native.Mathlib.Omega.{arith}
 use lib.Dec.{ltb}
 use borrow.Author.Tests.{ltb-true, ltb-false, lt-ltb, le-ltb}
-use Rattle.refusal.specs.declared.Verdict.{Verdict}
-use Rattle.refusal.specs.declared.Verdict.TheVariants.{Accepted, Refused}
+use Rattle.refusal.specs.Verdict.{Verdict}
 use Rattle.protocol_version.specs.declared.Version.TheVariants.{Draft}
 use Rattle.node_attempt.specs.declared.delivery.Delivery.TheVariants as call
 use Rattle.node.specs.Timing as timing
@@ -94,9 +94,9 @@ module _ (laws : PhaseLaws) where
       let f = accepted (delivery.deliver call.JoinAnswer n time payload).verdict e in
       (laws.answer-waits n time payload f, laws.answer-ends n time payload f)
     where
-      accepted : (v : Verdict) → report.is_accepted v ≡ true → v ≡ Accepted
-      accepted Accepted e = refl
-      accepted (Refused k) e = absurd (let z : ◌≡◌ {A = ℕ} 0 1 = cc in omega arith)
+      accepted : (v : Verdict) → report.is_accepted v ≡ true → v ≡ Ok tt
+      accepted (Ok tt) e = refl
+      accepted (Err k) e = absurd (let z : ◌≡◌ {A = ℕ} 0 1 = cc in omega arith)
   joins-waiting (update time payload) n e = absurd (let z : ◌≡◌ {A = ℕ} 0 1 = cc in omega arith)
   joins-waiting (verified type identifier) n e = absurd (let z : ◌≡◌ {A = ℕ} 0 1 = cc in omega arith)
   joins-waiting (poll time) n e = absurd (let z : ◌≡◌ {A = ℕ} 0 1 = cc in omega arith)
@@ -109,8 +109,8 @@ module _ (laws : PhaseLaws) where
     where
       go : (v : Verdict) → (timing.start n time timeout room).verdict ≡ v → report.is_accepted v ≡ false
           → waits (timing.start n time timeout room).node ≡ false
-      go Accepted f e = absurd (let z : ◌≡◌ {A = ℕ} 0 1 = cc in omega arith)
-      go (Refused k) f e = laws.start-refused n time timeout room k f ∙ w
+      go (Ok tt) f e = absurd (let z : ◌≡◌ {A = ℕ} 0 1 = cc in omega arith)
+      go (Err k) f e = laws.start-refused n time timeout room k f ∙ w
   stays-idle (join_answer time payload) n w e = laws.deliver-idle call.JoinAnswer n time payload w
   stays-idle (update time payload) n w e = laws.deliver-idle call.Update n time payload w
   stays-idle (verified type identifier) n w e = laws.verified-keeps n type identifier ∙ w

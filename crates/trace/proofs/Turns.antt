@@ -1,7 +1,7 @@
 -- A turn of the walk: what is left to play, at the place and in the state that the last record left, is the whole. A record that is read
 -- takes at least 3 bytes and no more than there are, so the walk ends, and the records are few.
 use Prim.Native.Nat.{ℕ, zero, suc, ◌+◌, ◌*◌, ◌-◌, ◌≤◌, ◌<◌}
-use mathlib.Core.Path.{◌≡◌, refl, subst}
+use mathlib.Core.Path.{◌≡◌, refl, sym, subst}
 use mathlib.Core.Bool.{Bool, true, false, cond}
 use mathlib.Core.List.{List}
 use native.Mathlib.Omega.{arith}
@@ -124,31 +124,33 @@ module _ (s : List ℕ) (x : StepResult) where
   turn g y e = rw e (by_most g.most g.inside g.enough g.same)
 
 -- ---- the loop's invariant, and its measure: what is left of the trace while the walk goes on
-abbrev pub Held : Bool → List ℕ → StepResult → Type 0
-Held true s x = Going s x
-Held false s x = x ≡ played s
+abbrev pub Held : Progress → List ℕ → StepResult → Type 0
+Held Walked s x = Going s x
+Held Complete s x = x ≡ played s
+Held Stopped s x = x ≡ played s
 
-abbrev pub left : Bool → List ℕ → StepResult → ℕ
-left going s x = cond going (suc (length s - x.next)) 0
+abbrev pub left : Progress → List ℕ → StepResult → ℕ
+left Walked s x = suc (length s - x.next)
+left Complete s x = 0
+left Stopped s x = 0
 
-module _ (going : Bool) (s : List ℕ) (x y : StepResult) (g : going ≡ true) (h : Held going s x) (e : y ≡ step s x.next x.state) where
-  turned : Turned y.progress s x y
-  turned = turn s x (rw g at h) y e
+module _ (s : List ℕ) (x y : StepResult) where
+  held_by : (p : Progress) → Turned p s x y → Held p s y
+  held_by Complete t = t
+  held_by Stopped t = t
+  held_by Walked t = t.0
 
-  pub complete : y.progress ≡ Complete → Held false s y
-  complete p = subst (λ (q : Progress). Turned q s x y) p turned
+  less_by : (p : Progress) → Turned p s x y → left p s y < suc (length s - x.next)
+  less_by Complete t = omega arith
+  less_by Stopped t = omega arith
+  less_by Walked t = omega (arith, t.1, t.0.inside)
 
-  pub stopped : y.progress ≡ Stopped → Held false s y
-  stopped p = subst (λ (q : Progress). Turned q s x y) p turned
+  module _ (w : x.progress ≡ Walked) (h : Held x.progress s x) (e : y ≡ step s x.next x.state) where
+    going : Going s x
+    going = subst (λ (q : Progress). Held q s x) w h
 
-  goes_on : y.progress ≡ Walked → Going s y × (x.next < y.next)
-  goes_on p = subst (λ (q : Progress). Turned q s x y) p turned
+    pub again : Held y.progress s y
+    again = held_by y.progress (turn s x going y e)
 
-  pub again : y.progress ≡ Walked → Held true s y
-  again p = (goes_on p).0
-
-  pub less : y.progress ≡ Walked → left true s y < left going s x
-  less p = rw g (omega (arith, (goes_on p).1, (goes_on p).0.inside))
-
-  pub done : left false s y < left going s x
-  done = rw g (omega arith)
+    pub less : left y.progress s y < left x.progress s x
+    less = subst (λ (q : Progress). left y.progress s y < left q s x) (sym w) (less_by y.progress (turn s x going y e))

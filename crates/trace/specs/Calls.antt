@@ -1,6 +1,6 @@
 -- The call that each record makes of the node, and what the calls of a trace answer.
 use Rattle.std.specs.Prelude.{ℕ, Bool, false, List, [], ◌∷◌, replicate}
-use Rattle.refusal.specs.declared.Verdict.{Verdict}
+use Rattle.refusal.specs.Verdict.{Verdict}
 use Rattle.node_attempt.specs.Poll.{due_verdict}
 use Rattle.node_key_sets.specs.Frames.{change_verdict, has_switched}
 use Rattle.node_attempt.specs.declared.delivery.Delivery.TheVariants as call

@@ -1,8 +1,7 @@
 -- The report of a trace, from its records and what their calls answered.
-use Rattle.std.specs.Prelude.{ℕ, zero, suc, ◌+◌, ◌-◌, Bool, true, false, cond, List, [], ◌∷◌, ◌++◌, eqb, ltb}
+use Rattle.std.specs.Prelude.{ℕ, zero, suc, ◌+◌, ◌-◌, Bool, true, false, cond, List, [], ◌∷◌, ◌++◌, eqb, ltb, Ok, Err}
 use Rattle.refusal.specs.Refusal.{number_of}
-use Rattle.refusal.specs.declared.Verdict.{Verdict}
-use Rattle.refusal.specs.declared.Verdict.TheVariants.{Accepted, Refused}
+use Rattle.refusal.specs.Verdict.{Verdict}
 use Rattle.trace.specs.Trace.{Record, new_node, start, join_answer, update, verified, poll, kind_of}
 use Rattle.trace.specs.Calls.{Answered}
 use Rattle.trace.specs.declared.state.ReplayStatistics.{ReplayStatistics}
@@ -17,8 +16,8 @@ of_kind kind a = eqb (kind_of a.asked) kind
 
 -- the number of the refusal, 0 where there is none
 abbrev pub refusal_number : Verdict → ℕ
-refusal_number Accepted = 0
-refusal_number (Refused k) = number_of k
+refusal_number (Ok tt) = 0
+refusal_number (Err k) = number_of k
 
 abbrev pub refused_with : ℕ → Answered → Bool
 refused_with number a = eqb (refusal_number a.verdict) number
@@ -33,8 +32,8 @@ each_from (suc n) first f = f first ∷ each_from n (suc first) f
 
 -- ---- waits, from an accepted start to its accepted join answer
 abbrev pub is_accepted : Verdict → Bool
-is_accepted Accepted = true
-is_accepted (Refused k) = false
+is_accepted (Ok tt) = true
+is_accepted (Err k) = false
 
 -- of an accepted start, and of an accepted join answer
 abbrev pub starts_with : Record → Verdict → Bool

@@ -1,8 +1,7 @@
 -- A walk over a trace, record by record: what is kept between two records, and what one record does to it.
-use Rattle.std.specs.Prelude.{ℕ, ◌+◌, ◌-◌, ◌^◌, Bool, true, false, cond, List, ltb, drop, get_or, set, replicate}
+use Rattle.std.specs.Prelude.{ℕ, ◌+◌, ◌-◌, ◌^◌, Bool, true, false, cond, List, ltb, drop, get_or, set, replicate, Ok, Err}
 use Rattle.refusal.specs.Refusal.{number_of}
-use Rattle.refusal.specs.declared.Verdict.{Verdict}
-use Rattle.refusal.specs.declared.Verdict.TheVariants.{Accepted, Refused}
+use Rattle.refusal.specs.Verdict.{Verdict}
 use Rattle.node.specs.Node.{empty_node}
 use Rattle.trace.specs.Trace.{Record, kind_of, size_of, Reading, end, bad, got, reading, is_admissible, Trace, over, stop, then, parse}
 use Rattle.trace.specs.Calls.{call_of}
@@ -28,8 +27,8 @@ raised counts i = set counts i (more (get_or counts i 0))
 
 -- a refusal is counted at its number, the first of which is 1
 abbrev pub refused : Verdict → List ℕ → List ℕ
-refused Accepted counts = counts
-refused (Refused k) counts = raised counts (number_of k - 1)
+refused (Ok tt) counts = counts
+refused (Err k) counts = raised counts (number_of k - 1)
 
 -- ---- the state after a record, by what its call did
 -- the time of the last accepted start

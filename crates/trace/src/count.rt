@@ -3,15 +3,12 @@ ghost use Rattle.std.specs.Prelude.{◌≡◌, ◌-◌, ◌<◌, cond, length};
 ghost use Rattle.trace.specs.Statistics.{is_accepted, greater};
 ghost use Rattle.trace.specs.Step.{more, more_if, raised, refused};
 
-use refusal::Verdict;
+use refusal::Refusal;
 
 fn more(n: u64) -> u64
     ensures { result ≡ more n }
 {
-    if n < u64::MAX {
-        return n + 1;
-    }
-    n
+    n.saturating_add(1)
 }
 
 pub(crate) fn more_if(again: bool, n: u64) -> u64
@@ -43,12 +40,12 @@ pub(crate) fn with_kind(kinds: [u64; 6], place: usize) -> [u64; 6]
 }
 
 // A refusal is counted at its number, the first of which is 1.
-pub(crate) fn with_refusal(refusals: [u64; 22], verdict: Verdict) -> [u64; 22]
+pub(crate) fn with_refusal(refusals: [u64; 22], verdict: Result<(), Refusal>) -> [u64; 22]
     ensures { result ≡ refused verdict refusals }
 {
     match verdict {
-        Verdict::Accepted => refusals,
-        Verdict::Refused(why) => {
+        Ok(()) => refusals,
+        Err(why) => {
             refusal::number_range_law();
             let mut counts = refusals;
             let place = why.number() - 1;
@@ -59,40 +56,22 @@ pub(crate) fn with_refusal(refusals: [u64; 22], verdict: Verdict) -> [u64; 22]
 }
 
 // The start that a node waits from: an accepted one at this time, or the old one.
-pub(crate) fn started_by(verdict: Verdict, time: u64, old: u64) -> u64
+pub(crate) fn started_by(verdict: Result<(), Refusal>, time: u64, old: u64) -> u64
     ensures { result ≡ cond (is_accepted verdict) time old }
 {
     match verdict {
-        Verdict::Accepted => time,
-        Verdict::Refused(_) => old,
+        Ok(()) => time,
+        Err(_) => old,
     }
-}
-
-fn greater(a: u64, b: u64) -> u64
-    ensures { result ≡ greater a b }
-{
-    if b < a {
-        return a;
-    }
-    b
-}
-
-// How long it is from a start to a time.
-fn wait(started: u64, time: u64) -> u64
-    ensures { result ≡ time - started }
-{
-    if time < started {
-        return 0;
-    }
-    time - started
 }
 
 // The longest wait after a join answer at this time.
-pub(crate) fn longer(verdict: Verdict, started: u64, time: u64, longest: u64) -> u64
+#[tactic(auto, using(crate::proofs::Numbers::max_greater))]
+pub(crate) fn longer(verdict: Result<(), Refusal>, started: u64, time: u64, longest: u64) -> u64
     ensures { result ≡ cond (is_accepted verdict) (greater (time - started) longest) longest }
 {
     match verdict {
-        Verdict::Accepted => greater(wait(started, time), longest),
-        Verdict::Refused(_) => longest,
+        Ok(()) => time.saturating_sub(started).max(longest),
+        Err(_) => longest,
     }
 }

@@ -4,13 +4,16 @@ ghost use Rattle.trace.specs.Trace.{new_node, start, join_answer, update, verifi
 ghost use Rattle.trace.specs.Calls.{done_delivered, call_of};
 
 use node::{DeliveryResult, Node};
+use node_key_sets::frames::has_switched;
 use node_parameters::HeldOctets;
 use protocol_version::Version;
-use refusal::Verdict;
+use refusal::{Refusal, verdict_of};
 
+// The verdict of a record's call, whether it switched, and the node as the call left it.
+// Kept: `call_of` and `replay_exact_law` have the node beside a refusal too, since a refused call leaves it as it was.
 #[derive(Clone, Copy)]
 pub struct CallResult {
-    pub verdict: Verdict,
+    pub verdict: Result<(), Refusal>,
     pub switched: bool,
     pub node: Node,
 }
@@ -74,8 +77,8 @@ pub(crate) fn verified(node: Node, frame_type: u8, identifier: u8) -> CallResult
     let change = heard.change;
     let reported = heard.node;
     CallResult {
-        verdict: change.verdict(),
-        switched: change.has_switched(),
+        verdict: verdict_of(change),
+        switched: has_switched(change),
         node: reported,
     }
 }
@@ -87,7 +90,7 @@ pub(crate) fn poll(node: Node, time: u64) -> CallResult
     let due = polled.due;
     let after = polled.node;
     CallResult {
-        verdict: due.verdict(),
+        verdict: verdict_of(due),
         switched: false,
         node: after,
     }

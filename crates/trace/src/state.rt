@@ -18,6 +18,7 @@ pub struct ReplayStatistics {
 }
 
 // Whether there is a node, the node, the time of the accepted start that it waits from, and the report.
+// Kept: `nothing_yet` and `replay_exact_law` have the empty node where none was made; an Option<Node> would copy 878 bytes at each record.
 #[derive(Clone, Copy)]
 pub struct State {
     pub made: bool,
@@ -26,6 +27,7 @@ pub struct State {
     pub statistics: ReplayStatistics,
 }
 
+// Kept: no plainer: three ways that a step can go, none of them a refusal; `StepsSay` tells them apart.
 #[derive(Clone, Copy)]
 pub enum Progress {
     Complete,
@@ -43,6 +45,7 @@ pub struct StepResult {
 
 // A whole replay: whether it went to the trace's end, where it ended, whether there is a node, the node, and the report.
 // Where there is none the empty node stands there.
+// Kept: `ReplayExact` says that the empty node stands where there is none, and that the report stands in any case.
 #[derive(Clone, Copy)]
 pub struct ReplayResult {
     pub complete: bool,

@@ -41,6 +41,8 @@ fn new_at(at: usize, role: u8, network: HeldOctets, state: State) -> StepResult
     )
 }
 
+// Kept: no plainer: this and the four below differ in call, kind and waits, each the case of `advance (got ..)` that its clause names; one
+// function would take the call as a closure and copy the node once more.
 fn start_at(at: usize, time: u64, timeout: u64, state: State) -> StepResult
     requires { at + record_size 2 < 2 ^ 64 }
     ensures { result ≡ advance (got (start time timeout)) at state }

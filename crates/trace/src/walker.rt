@@ -34,15 +34,8 @@ fn walk(trace: &[u8]) -> StepResult
     ensures { result ≡ steps.played trace.now }
 {
     let mut last = reached(Progress::Walked, 0, nothing_yet());
-    let mut going = true;
-    while going {
+    while let Progress::Walked = last.progress {
         last = step_from(trace, last.next, last.state);
-        let progress = last.progress;
-        going = match progress {
-            Progress::Complete => false,
-            Progress::Stopped => false,
-            Progress::Walked => true,
-        };
     }
     last
 }

@@ -1,17 +1,12 @@
--- Unused bytes, byte by byte.
-use Prim.Native.Nat.{ℕ, ◌+◌, ◌-◌, ◌≤◌, ◌<◌}
-use mathlib.Core.Path.{◌≡◌}
-use mathlib.Core.Bool.{true, ◌&&◌}
-use mathlib.Core.List.{List}
-use lib.Dec.{eqb}
-use lib.ListN.{length, take, drop, get_or}
-use Rattle.trace_record.specs.Layout.{zeros}
-use Rattle.lemmas.specs.lists.BigEndian.{part-cons}
+-- Unused bytes: `all` of an iterator over them, as `zeros` has it.
+use Rattle.std.proofs.Common.{ℕ, ◌+◌, ◌-◌, ◌≡◌, refl, ap, arith, Bool, ◌&&◌, List, [], ◌∷◌, take, drop, eqb}
+use Rattle.std.specs.List.{list_all}
+use Rattle.trace_record.specs.Layout.{zeros, blank}
 
-pub zeros-step :
-    (s : List ℕ) (i end : ℕ) → i < end → end ≤ length s →
-    zeros (take (end - i) (drop i s)) ≡ (eqb (get_or s i 0) 0 && zeros (take (end - (i + 1)) (drop (i + 1) s)))
-zeros-step s i end h l = rw (part-cons s i end h l)
+all-zeros : (b : List ℕ) → list_all (λ x. eqb x 0) b ≡ zeros b
+all-zeros [] = refl
+all-zeros (x ∷ b) = ap (λ (t : Bool). (eqb x 0 && t)) (all-zeros b)
 
-pub zeros-none : (k : ℕ) (s : List ℕ) → k ≡ 0 → zeros (take k s) ≡ true
-zeros-none k s e = rw e
+pub part-blank : (n at : ℕ) (s : List ℕ) → list_all (λ x. eqb x 0) (take (at + n - at) (drop at s)) ≡ blank n (drop at s)
+unfolding blank
+part-blank n at s = let e : at + n - at ≡ n = omega arith in rw e (all-zeros (take n (drop at s)))

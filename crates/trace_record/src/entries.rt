@@ -6,6 +6,8 @@ ghost use Rattle.trace_record.specs.Layout.{delivery, delivery_of, verified, fie
 use crate::fields::{blank, number_at};
 
 // The end of the trace; no good record; or a record's numbers, in the order of its fields.
+// Kept: `EntriesSay` of `kind_law` and `Inside` of `EntryAt` tell each of the eight cases by its number and its fields as they are written,
+// so End and Bad stand beside the records, and role, frame type and a length of 255 for none stay numbers.
 #[derive(Clone, Copy)]
 pub enum Entry {
     End,
@@ -63,10 +65,7 @@ fn body_size(kind: u8) -> usize
 fn is_network_length(len: u8) -> bool
     ensures { result ≡ is_network_length len }
 {
-    if len == 255 {
-        return true;
-    }
-    len <= 16
+    len == 255 || len <= 16
 }
 
 fn network_used(len: u8) -> usize
@@ -136,6 +135,7 @@ fn verified_at(s: &[u8], at: usize) -> Entry
 }
 
 // The record of this kind whose body begins at `at`.
+// Kept: no plainer: a kind is read once, here and for its size, and the match over its number is the format's table.
 fn fields_at(kind: u8, s: &[u8], at: usize) -> Entry
     requires { at + body_size kind ≤ length s.now }
     ensures { result ≡ fields kind (drop at s.now) }

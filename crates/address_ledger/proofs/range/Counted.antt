@@ -25,7 +25,7 @@ module _ (laws : AddressLaws) where
 
   module _ (first size n : ℕ) (h : first + size ≤ 0x10000) (most : n ≤ size) (least : counted first size ≤ n) where
     -- the loop of `count`: at the first address from the end every number before is one
-    pub ends-here : 0 < n → is_address (bytes_of (first + (n - 1))) ≡ true → n ≡ counted first size
+    pub ends-here : 0 < n → is_address (bytes_of (first + (n - 1))) ≡ true → n - 1 + 1 ≡ counted first size
     ends-here p e =
         let t = ltb-true (first + (n - 1)) 0xfffe (sym (laws.numbers (first + (n - 1)) (omega arith)) ∙ e) in
         omega (arith, counted-number first size h)

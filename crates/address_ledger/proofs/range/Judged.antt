@@ -1,4 +1,5 @@
 -- What the tests of range and memory show, one law to a way out of `judge`, and what an accepted range is known to have.
+use Rattle.std.specs.Prelude.{Ok, Err}
 use Prim.Native.Nat.{ℕ, ◌+◌, ◌*◌, ◌≤◌, ◌<◌}
 use mathlib.Core.Path.{◌≡◌, refl}
 use mathlib.Core.Bool.{Bool, true, false, cond, ◌&&◌}
@@ -6,28 +7,28 @@ use native.Mathlib.Omega.{arith}
 use borrow.Author.Tests.{le-leb, lt-leb, leb-true}
 use lib.Dec.{leb}
 use Rattle.lemmas.specs.logic.Tests.{both_true}
+use Rattle.refusal.specs.Verdict.{Verdict}
 use Rattle.refusal.specs.declared.Refusal.TheVariants.{Room, Range}
-use Rattle.refusal.specs.declared.Verdict.TheVariants.{Accepted, Refused}
 use Rattle.address_ledger.specs.range.RangeLemmas.{counted-most}
 use Rattle.address_ledger.specs.range.Range.{in_limits, judged, counted, counted_in, Usable}
 
 -- ---- RANGE, then ROOM
 module _ (first size len : ℕ) where
-  pub outside : in_limits first size ≡ false → Refused Range ≡ judged first size len
+  pub outside : in_limits first size ≡ false → Err Range ≡ judged first size len
   unfolding judged
   outside e = rw e
 
   module _ (e : in_limits first size ≡ true) where
-    pub memory-short : len < 9 * size → Refused Room ≡ judged first size len
+    pub memory-short : len < 9 * size → Err Room ≡ judged first size len
     unfolding judged
     memory-short q = rw (e, lt-leb (9 * size) len q)
 
-    pub accepted : 9 * size ≤ len → Accepted ≡ judged first size len
+    pub accepted : 9 * size ≤ len → Ok tt ≡ judged first size len
     unfolding judged
     accepted q = rw (e, le-leb (9 * size) len q)
 
 -- ---- back from an accepted range to its tests
-passed : (p q : Bool) → Accepted ≡ cond p (cond q Accepted (Refused Room)) (Refused Range) → (p ≡ true) × (q ≡ true)
+passed : (p q : Bool) → ◌≡◌ {A = Verdict} (Ok tt) (cond p (cond q (Ok tt) (Err Room)) (Err Range)) → (p ≡ true) × (q ≡ true)
 passed true true h = (refl, refl)
 passed true false h = (refl, cc)
 passed false q h = (cc, cc)
@@ -45,7 +46,7 @@ module _ (first size : ℕ) (e : in_limits first size ≡ true) where
   pub within_end : first + size ≤ 0x10000
   within_end = leb-true (first + size) 0x10000 limits.1.1
 
-module _ (first size len : ℕ) (f : Accepted ≡ judged first size len) where
+module _ (first size len : ℕ) (f : Ok tt ≡ judged first size len) where
   tests : (in_limits first size ≡ true) × (leb (9 * size) len ≡ true)
   unfolding judged
   tests = passed (in_limits first size) (leb (9 * size) len) f

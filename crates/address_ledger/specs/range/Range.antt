@@ -1,9 +1,8 @@
 -- The range of a ledger, given by its first address and its size: the limits, and the memory that it needs.
-use Rattle.std.specs.Prelude.{ℕ, zero, suc, ◌+◌, ◌*◌, ◌≤◌, Bool, cond, ◌&&◌, leb}
+use Rattle.std.specs.Prelude.{ℕ, zero, suc, ◌+◌, ◌*◌, ◌≤◌, Bool, cond, ◌&&◌, leb, Ok, Err}
 use Rattle.short_address.specs.Address.{is_address, bytes_of}
 use Rattle.refusal.specs.declared.Refusal.TheVariants.{Room, Range}
-use Rattle.refusal.specs.declared.Verdict.{Verdict}
-use Rattle.refusal.specs.declared.Verdict.TheVariants.{Accepted, Refused}
+use Rattle.refusal.specs.Verdict.{Verdict}
 
 -- 1 to 4,096 consecutive addresses that end at FFFF at most
 unfoldable pub in_limits : ℕ → ℕ → Bool
@@ -11,7 +10,7 @@ in_limits first size = (leb 1 size && (leb size 4096 && leb (first + size) 0x100
 
 -- RANGE, then ROOM: nine bytes an address
 unfoldable pub judged : ℕ → ℕ → ℕ → Verdict
-judged first size len = cond (in_limits first size) (cond (leb (9 * size) len) Accepted (Refused Room)) (Refused Range)
+judged first size len = cond (in_limits first size) (cond (leb (9 * size) len) (Ok tt) (Err Room)) (Err Range)
 
 -- how many of so many numbers from `first` on are addresses: FFFE and FFFF, which are none, are in the limits and the memory alone. They
 -- are the highest numbers, so the places that count are the lowest ones

@@ -19,6 +19,7 @@ returns-then-dst-text c =
 pub returns : goal.returns
 returns c =
     done.seal-done c.args.key c.args.nonce c.args.associated.now c.args.text.now c.args.dst.now
-    c.expand-keys.result c.crypt_into.new.dst c.tag_of-tag.result c.put.new.dst
-    c.if-associated-gt64.false c.if-text-gt256.false c.if-dst-text.false c.expand-keys.ensures
-    c.crypt_into.ensures c.tag_of-tag.ensures c.put.ensures
+    c.new-session.result.keys c.crypt_into.new.dst c.tag_of-tag.result c.copy_from_slice.new.self
+    c.if-associated-gt64.false c.if-text-gt256.false c.if-dst-text.false c.new-session.ensures.keys
+    (rw c.new-session.ensures.nonce at c.crypt_into.ensures) (rw c.new-session.ensures.nonce at c.tag_of-tag.ensures)
+    c.copy_from_slice.ensures.after

@@ -24,7 +24,7 @@ returns-then-dst-n c =
 pub returns : goal.returns
 returns c =
     done.unseal-done c.args.key c.args.nonce c.args.associated.now c.args.sealed.now c.args.dst.now
-    c.if-associated-gt64.false c.if-sealed-lt8.false c.if-sealed-gt264.false c.expand-keys.result c.crypt_into.new.dst c.tag_of-tag.result _
-    c.same_tag-right.result c.release.result
-    c.release.new.dst c.if-dst-n.false c.expand-keys.ensures c.crypt_into.ensures
-    c.tag_of-tag.ensures c.same_tag-right.ensures c.release.ensures
+    c.if-associated-gt64.false c.if-sealed-lt8.false c.if-sealed-gt264.false c.new-session.result.keys c.crypt_into.new.dst
+    c.tag_of-tag.result _ c.same_tag-right.result c.release.result
+    c.release.new.dst c.if-dst-n.false c.new-session.ensures.keys (rw c.new-session.ensures.nonce at c.crypt_into.ensures)
+    (rw c.new-session.ensures.nonce at c.tag_of-tag.ensures) c.same_tag-right.ensures c.release.ensures

@@ -1,56 +1,34 @@
 // An answer as one number, so that C can compare it with another reader's: a number for each value, at a place that the caller picks.
 use cojp::{Configuration, Octets};
 use link_key::set::KeySet;
-use refusal::Verdict;
-
-pub(crate) fn wide(x: u8) -> u64 {
-    x as u64
-}
+use refusal::Refusal;
 
 // Document 01's number, and 0 for accepted.
-pub(crate) fn verdict_number(verdict: Verdict) -> u64 {
+pub(crate) fn verdict_number(verdict: Result<(), Refusal>) -> u64 {
     match verdict {
-        Verdict::Accepted => 0,
-        Verdict::Refused(why) => wide(why.number()),
+        Ok(()) => 0,
+        Err(why) => u64::from(why.number()),
     }
 }
 
-pub(crate) fn is_accepted(verdict: Verdict) -> bool {
-    match verdict {
-        Verdict::Accepted => true,
-        Verdict::Refused(_) => false,
-    }
-}
-
-pub(crate) fn octets_number(o: Octets, pick: u8) -> u64 {
-    let bytes = o.bytes;
-    let i = (pick % 16) as usize;
-    wide(bytes[i])
+pub(crate) fn octets_number(octets: Octets, pick: u8) -> u64 {
+    u64::from(octets.bytes[usize::from(pick % 16)])
 }
 
 pub(crate) fn keys_number(set: KeySet, pick: u8) -> u64 {
-    let keys = set.keys;
-    let i = (pick % 8) as usize;
-    let key = keys[i];
-    let value = key.value;
-    let j = (pick % 16) as usize;
-    wide(key.identifier) ^ wide(key.usage) ^ wide(value[j]) ^ (set.count as u64)
+    let key = set.keys[usize::from(pick % 8)];
+    let byte = key.value[usize::from(pick % 16)];
+    u64::from(key.identifier) ^ u64::from(key.usage) ^ u64::from(byte) ^ (set.count as u64)
 }
 
 pub(crate) fn configuration_number(c: Configuration, pick: u8) -> u64 {
-    let keys = c.keys;
-    let address = c.address;
-    let value = address.value;
-    let bytes = value.bytes;
-    let i = (pick % 2) as usize;
-    let jrc = c.jrc;
-    let network = c.network;
-    let prefix = c.prefix;
-    keys_number(keys.value, pick)
-        ^ value.lease
-        ^ wide(bytes[i])
-        ^ octets_number(jrc.value, pick)
-        ^ octets_number(network.value, pick)
-        ^ octets_number(prefix.value, pick)
+    let address = c.address.value;
+    let byte = address.bytes[usize::from(pick % 2)];
+    keys_number(c.keys.value, pick)
+        ^ address.lease
+        ^ u64::from(byte)
+        ^ octets_number(c.jrc.value, pick)
+        ^ octets_number(c.network.value, pick)
+        ^ octets_number(c.prefix.value, pick)
         ^ c.unknown
 }

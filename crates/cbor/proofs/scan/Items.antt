@@ -1,4 +1,5 @@
 -- What `skip_item`, `skip_members`, `scan` and `open_map` answer, case by case of their returns.
+use Rattle.std.specs.Prelude.{Result, Ok, Err}
 use Prim.Native.Nat.{ℕ, zero, suc, ◌+◌, ◌-◌, ◌≤◌, ◌<◌}
 use mathlib.Core.Path.{◌≡◌, refl, ap, sym, ◌∙◌, fun_ext}
 use mathlib.Core.Bool.{Bool}
@@ -9,16 +10,12 @@ use lib.ListN.{length, drop, length-drop}
 use lib.Seq.{drop-drop}
 use Rattle.refusal.specs.declared.Refusal.{Refusal}
 use Rattle.refusal.specs.declared.Refusal.TheVariants.{Cut, Deep, Extra}
-use Rattle.refusal.specs.declared.Verdict.TheVariants as vv
 use Rattle.cbor.specs.Item.{Item, bytes, text, array, map_item, tag, more, pair}
 use Rattle.cbor.specs.Decode.{Outcome, refused, got, and_then, next, Heading, members}
 use Rattle.cbor.specs.Decode.{pairs, major_of, content, decode_by, payload_by, ended}
 use Rattle.cbor.specs.Strict.{head_by}
 use Rattle.cbor.specs.Answer.{scan_answer}
 use Rattle.cbor.specs.declared.head.Head.{Head}
-use Rattle.cbor.specs.declared.head.HeadResult.TheVariants as hv
-use Rattle.cbor.specs.declared.item.SkipResult.{SkipResult}
-use Rattle.cbor.specs.declared.item.SkipResult.TheVariants as sv
 use Rattle.cbor.proofs.Answers.{passed-got, passed-refused}
 use Rattle.cbor.proofs.Heads.{next-got, next-cut}
 use Rattle.cbor.proofs.Places.{HeadAt, head_says, Rest, stop, rest, forget, Passed}
@@ -110,7 +107,7 @@ abbrev pub item_by : Bool → ℕ → List ℕ → Outcome Item
 item_by b d l = decode_by (head_by b) d l
 
 module _ (b : Bool) (s : List ℕ) (at d : ℕ) where
-  pub item-deep : d ≡ 0 → Passed s (item_by b d (drop at s)) (sv.Refused Deep)
+  pub item-deep : d ≡ 0 → Passed s (item_by b d (drop at s)) (Err Deep)
   unfolding decode_by
   item-deep e = rw e (record { says = refl; inside = tt })
 
@@ -119,10 +116,10 @@ module _ (b : Bool) (s : List ℕ) (at d : ℕ) where
   unfolding decode_by
   decode-step h n e = ap (λ (k : ℕ). item_by b k (drop at s)) (unsuc d n) ∙ rw e
 
-  pub item_refused : (k : Refusal) → ¬ (d ≡ 0) → HeadAt b s at (hv.Refused k) → Passed s (item_by b d (drop at s)) (sv.Refused k)
+  pub item_refused : (k : Refusal) → ¬ (d ≡ 0) → HeadAt b s at (Err k) → Passed s (item_by b d (drop at s)) (Err k)
   item_refused k n h = record { says = sym (ap forget (decode-step (refused k) n h.says)); inside = tt }
 
-  module _ (h : Head) (n : ¬ (d ≡ 0)) (w : HeadAt b s at (hv.Got h)) where
+  module _ (h : Head) (n : ¬ (d ≡ 0)) (w : HeadAt b s at (Ok h)) where
     abbrev m : ℕ
     m = h.major
 
@@ -136,13 +133,13 @@ module _ (b : Bool) (s : List ℕ) (at d : ℕ) where
     below = item_by b (d - 1)
 
     pub decode-got : item_by b d (drop at s) ≡ content below (major_of m) h.info a (drop p s)
-    decode-got = decode-step (head_says s (hv.Got h)) n w.says
+    decode-got = decode-step (head_says s (Ok h)) n w.says
 
-    pub item-alone : (2 ≤ m → m ≤ 6 → ⊥) → Passed s (item_by b d (drop at s)) (sv.Next p)
+    pub item-alone : (2 ≤ m → m ≤ 6 → ⊥) → Passed s (item_by b d (drop at s)) (Ok p)
     item-alone o =
         record { says = sym (ap forget decode-got ∙ head-alone below h.info a (drop p s) m o); inside = w.inside }
 
-    pub item-string : 2 ≤ m → m ≤ 3 → a ≤ length s - p → Passed s (item_by b d (drop at s)) (sv.Next (p + a))
+    pub item-string : 2 ≤ m → m ≤ 3 → a ≤ length s - p → Passed s (item_by b d (drop at s)) (Ok (p + a))
     item-string l l' r =
         let i : p ≤ length s = w.inside in
         let r' : a ≤ length (drop p s) = rw (length-drop p s) r in
@@ -152,7 +149,7 @@ module _ (b : Bool) (s : List ℕ) (at d : ℕ) where
           inside = omega arith;
         }
 
-    pub item-short : 2 ≤ m → m ≤ 3 → length s - p < a → Passed s (item_by b d (drop at s)) (sv.Refused Cut)
+    pub item-short : 2 ≤ m → m ≤ 3 → length s - p < a → Passed s (item_by b d (drop at s)) (Err Cut)
     item-short l l' r =
         let r' : length (drop p s) < a = rw (length-drop p s) r in
         record {
@@ -160,25 +157,25 @@ module _ (b : Bool) (s : List ℕ) (at d : ℕ) where
           inside = tt;
         }
 
-    pub item-array : m ≡ 4 → (r : SkipResult) → Passed s (members below a (drop p s)) r → Passed s (item_by b d (drop at s)) r
+    pub item-array : m ≡ 4 → (r : Result ℕ Refusal) → Passed s (members below a (drop p s)) r → Passed s (item_by b d (drop at s)) r
     item-array e r q =
         record { says = q.says ∙ sym (ap forget decode-got ∙ array-content below h.info a (drop p s) m e); inside = q.inside }
 
-    pub item-map-refused : m ≡ 5 → (k : Refusal) → Passed s (members below a (drop p s)) (sv.Refused k)
-        → Passed s (item_by b d (drop at s)) (sv.Refused k)
+    pub item-map-refused : m ≡ 5 → (k : Refusal) → Passed s (members below a (drop p s)) (Err k)
+        → Passed s (item_by b d (drop at s)) (Err k)
     item-map-refused e k q = record {
       says = sym (ap forget decode-got ∙ map-content below h.info a (drop p s) m e ∙ rw (← q.says));
       inside = tt;
     }
 
-    pub item-map : m ≡ 5 → (q : ℕ) (r : SkipResult) → Passed s (members below a (drop p s)) (sv.Next q)
+    pub item-map : m ≡ 5 → (q : ℕ) (r : Result ℕ Refusal) → Passed s (members below a (drop p s)) (Ok q)
         → Passed s (members below a (drop q s)) r → Passed s (item_by b d (drop at s)) r
     item-map e q r f g = record {
       says = g.says ∙ sym (ap forget decode-got ∙ map-content below h.info a (drop p s) m e ∙ rw (← f.says));
       inside = g.inside;
     }
 
-    pub item-tag : m ≡ 6 → (r : SkipResult) → Passed s (below (drop p s)) r → Passed s (item_by b d (drop at s)) r
+    pub item-tag : m ≡ 6 → (r : Result ℕ Refusal) → Passed s (below (drop p s)) r → Passed s (item_by b d (drop at s)) r
     item-tag e r q =
         record { says = q.says ∙ sym (ap forget decode-got ∙ tag-content below h.info a (drop p s) m e); inside = q.inside }
 
@@ -191,11 +188,11 @@ module _ (b : Bool) (s : List ℕ) (at d n : ℕ) where
       ∙ members-times (item_by b d) (suc (n - 1)) (drop at s)
       ∙ sym (simp members-times)
 
-  pub members-refused : 0 < n → (k : Refusal) → Passed s (item_by b d (drop at s)) (sv.Refused k)
+  pub members-refused : 0 < n → (k : Refusal) → Passed s (item_by b d (drop at s)) (Err k)
       → forget (members (item_by b d) n (drop at s)) ≡ stop k
   members-refused h k q = members_step h ∙ rw (← q.says)
 
-  pub members-before : 0 < n → (p : ℕ) → Passed s (item_by b d (drop at s)) (sv.Next p)
+  pub members-before : 0 < n → (p : ℕ) → Passed s (item_by b d (drop at s)) (Ok p)
       → forget (members (item_by b d) (n - 1) (drop p s)) ≡ forget (members (item_by b d) n (drop at s))
   members-before h p q = sym (members_step h ∙ rw (← q.says))
 
@@ -204,26 +201,26 @@ module _ (b : Bool) (s : List ℕ) (at d n : ℕ) where
   members-done h = let e : n ≡ 0 = omega arith in rw e
 
 -- ---- a whole payload
-extra : (i : Item) (t : List ℕ) → 0 < length t → scan_answer (ended i t) ≡ vv.Refused Extra
+extra : (i : Item) (t : List ℕ) → 0 < length t → scan_answer (ended i t) ≡ Err Extra
 extra i [] h = absurd (omega arith)
 extra i (b ∷ t) h = refl
 
-whole : (i : Item) (t : List ℕ) → length t ≡ 0 → scan_answer (ended i t) ≡ vv.Accepted
+whole : (i : Item) (t : List ℕ) → length t ≡ 0 → scan_answer (ended i t) ≡ Ok tt
 whole i [] h = refl
 whole i (b ∷ t) h = absurd (omega arith)
 
 module _ (b : Bool) (s : List ℕ) where
-  pub scan-refused : (k : Refusal) → Passed s (item_by b 8 s) (sv.Refused k) → vv.Refused k ≡ scan_answer (payload_by (head_by b) s)
+  pub scan-refused : (k : Refusal) → Passed s (item_by b 8 s) (Err k) → Err k ≡ scan_answer (payload_by (head_by b) s)
   unfolding payload_by
   scan-refused k q = rw (passed-refused s (item_by b 8 s) k q)
 
-  pub scan-extra : (p : ℕ) → Passed s (item_by b 8 s) (sv.Next p) → p < length s → vv.Refused Extra ≡ scan_answer (payload_by (head_by b) s)
+  pub scan-extra : (p : ℕ) → Passed s (item_by b 8 s) (Ok p) → p < length s → Err Extra ≡ scan_answer (payload_by (head_by b) s)
   unfolding payload_by
   scan-extra p q h =
       let (i, e) = passed-got s (item_by b 8 s) p q in
       rw e (sym (extra i (drop p s) (omega (arith, length-drop p s))))
 
-  pub scan-whole : (p : ℕ) → Passed s (item_by b 8 s) (sv.Next p) → length s ≤ p → vv.Accepted ≡ scan_answer (payload_by (head_by b) s)
+  pub scan-whole : (p : ℕ) → Passed s (item_by b 8 s) (Ok p) → length s ≤ p → Ok tt ≡ scan_answer (payload_by (head_by b) s)
   unfolding payload_by
   scan-whole p q h =
       let (i, e) = passed-got s (item_by b 8 s) p q in

@@ -1,4 +1,5 @@
 -- How a byte string is written: its head, h bytes, and then its bytes in the part of the destination after the head.
+use Rattle.std.specs.Prelude.{Ok, Err}
 use Prim.Native.Nat.{ℕ, ◌+◌, ◌-◌, ◌≤◌, ◌<◌}
 use mathlib.Core.Path.{◌≡◌, refl}
 use mathlib.Core.List.{List, ◌++◌}
@@ -9,7 +10,6 @@ use Rattle.refusal.specs.declared.Refusal.TheVariants.{Room}
 use Rattle.byte_io.specs.Write.{Did, Wrote, emit}
 use Rattle.cbor.specs.Encode.{encode, extra_of, shortest}
 use Rattle.cbor.specs.Item.{bytes}
-use Rattle.byte_io.specs.declared.WriteResult.TheVariants as wv
 use Rattle.byte_io.specs.WriteLemmas.{did-emit, did-room, seam, wrote-length}
 use Rattle.cbor.proofs.HeadLengths.{extra-most, length-string}
 
@@ -18,7 +18,7 @@ module _ (s d : List ℕ) (h : ℕ) (e : h ≡ extra_of (length s) + 1) where
   pub string-head : h ≤ 9
   string-head = omega (arith, extra-most (length s))
 
-  pub string-refused : length d < h + length s → Did (emit (encode (bytes s))) d (wv.Refused Room) d
+  pub string-refused : length d < h + length s → Did (emit (encode (bytes s))) d (Err Room) d
   string-refused l = did-room (encode (bytes s)) d (omega (arith, length-string 2 s))
 
   -- there is room; the head was written, and the destination is l
@@ -34,7 +34,7 @@ module _ (s d : List ℕ) (h : ℕ) (e : h ≡ extra_of (length s) + 1) where
 
     -- its bytes were copied to the part after the head, which now is p
     pub string-done : (p : List ℕ) → p ≡ take (length s) s ++ drop (length s) (take (length l - h) (drop h l))
-        → Did (emit (encode (bytes s))) d (wv.Length (h + length s)) (take h l ++ (p ++ drop (length l - h) (drop h l)))
+        → Did (emit (encode (bytes s))) d (Ok (h + length s)) (take h l ++ (p ++ drop (length l - h) (drop h l)))
     string-done p c =
         did-emit (omega (arith, length-string 2 s))
         (seam (omega (arith, w.many)) w (record { many = refl; holds = rw (take-length s) at c }))

@@ -16,24 +16,23 @@ loop-remaining-preserved c =
     let a = c.args in
     let l = c.loop-remaining in
     let k : KeySet = record { count = l.n; keys = l.keys } in
-    let r = c.read_group-g in
-    let g = c.in-Closed in
+    let r = c.read_group in
+    let g = c.in-Some.group in
     let told = c.is_storable.ensures in
     let storing = storable g.identifier g.usage g.len in
     elim c.if-is_storable.branch [
       | then-is_storable w ↦
-          let asked = w.additional_info_at-read in
           let made = w.group_key-key in
           let counted = w.count_with-n in
           rw (w.n-is, w.keys-is, w.seen-is)
           (gathering-stored a.allowed a.s.now a.from a.count l.at l.remaining k l.seen l.invariant r.result r.ensures.group_at
-          g.identifier g.usage g.start g.len g.extra g.next g.left g.is r.ensures.rest
-          (ltb-true l.n 8 (both_left (ltb l.n 8) storing (is_true told w.if-is_storable.true))) asked.result asked.ensures made.result
+          g c.in-Some.is r.ensures.rest
+          (ltb-true l.n 8 (both_left (ltb l.n 8) storing (is_true told w.if-is_storable.true))) made.result
           made.ensures _ counted.ensures.so_far counted.result counted.ensures.value)
       | else-is_storable w ↦
           rw (w.n-is, w.keys-is, w.seen-is)
           (gathering-nine a.allowed a.s.now a.from a.count l.at l.remaining k l.seen l.invariant r.result r.ensures.group_at
-          g.identifier g.usage g.start g.len g.extra g.next g.left g.is r.ensures.rest (is_false told w.if-is_storable.false))
+          g c.in-Some.is r.ensures.rest (is_false told w.if-is_storable.false))
     ]
 
 pub returns-clause-value : goal.returns-clause-value

@@ -1,39 +1,37 @@
 -- Join requests: what a label names, its value, and the answer, case by case.
-use Prim.Native.Nat.{ℕ, zero, suc, ◌+◌, ◌≤◌, ◌<◌}
+use Rattle.std.specs.Prelude.{Ok, Err, Result, IfOk}
+use Prim.Native.Nat.{ℕ, zero, suc, ◌<◌}
 use mathlib.Core.Path.{◌≡◌, refl, ap, sym, ◌∙◌}
 use mathlib.Core.Bool.{Bool, true, false, cond}
 use mathlib.Core.List.{List}
 use native.Mathlib.Omega.{arith}
 use lib.Dec.{eqb}
 use lib.ListN.{drop}
-use Rattle.refusal.specs.declared.Verdict.{Verdict}
-use Rattle.refusal.specs.declared.Verdict.TheVariants as verdict
+use Rattle.refusal.specs.declared.Refusal.{Refusal}
 use Rattle.cbor.specs.View.{View}
 use Rattle.cojp.specs.Bytes.{value_view, after_value, EndsAt}
 use Rattle.cojp.specs.ErrorReports.{added}
 use Rattle.cojp.specs.Lists.{list_taken, unsupported_taken}
-use Rattle.cojp.specs.Octets.{no_octets_parameter, octets_read, octets_answer}
-use Rattle.cojp.specs.Reading.{Reading, read, bind, map_reading, result_of, Accepting, by_version_of}
-use Rattle.cojp.specs.Request.{role_judged, role_gathered, list_gathered, role_label_status, with_network, request_state}
-use Rattle.cojp.specs.Request.{request_passing, request_label_status, request_taking, request_form, settled, request_answer}
+use Rattle.cojp.specs.Octets.{no_octets_parameter, octets_read}
+use Rattle.cojp.specs.Reading.{Reading, read, map_reading, by_version_of}
+use Rattle.cojp.specs.Request.{role_judged, role_gathered, list_gathered, role_label_status, with_network}
+use Rattle.cojp.specs.Request.{request_passing, request_label_status, request_taking, request_form}
 use Rattle.protocol_version.specs.Version.{by_version}
 use Rattle.cojp.specs.Walk.{label_status_of, known_read}
 use Rattle.cojp.specs.declared.error_report.ErrorReports.{ErrorReports}
 use Rattle.cojp.specs.declared.list.ListRead.{ListRead}
-use Rattle.cojp.specs.declared.octets.OctetsRead.{OctetsRead}
+use Rattle.cojp.specs.declared.octets.OctetsParameter.{OctetsParameter}
 use Rattle.cojp.specs.declared.disposition.Disposition.{Disposition}
 use Rattle.cojp.specs.declared.disposition.Disposition.TheVariants as report
 use Rattle.cojp.specs.declared.request.RequestState.{RequestState}
-use Rattle.cojp.specs.declared.request.JoinRequest.{JoinRequest}
-use Rattle.cojp.specs.declared.request.RequestRead.{RequestRead}
 use Rattle.protocol_version.specs.declared.Version.{Version}
 use Rattle.protocol_version.specs.declared.Version.TheVariants.{Draft, Published}
 use Rattle.cojp.specs.declared.walk.LabelStatus.{LabelStatus}
 use Rattle.cojp.specs.declared.walk.LabelStatus.TheVariants.{Unknown}
 use Rattle.cojp_map.specs.Pairs.{PairLabelSpec, seen, once}
-use Rattle.cojp_map.specs.declared.pair.LabelResult.{LabelResult}
-use Rattle.cojp_map.proofs.Parameters.{octets-said}
-use Rattle.cojp_map.proofs.Maps.{put-said, if_again, standing-seen, Turned, turned-known, turned-passed}
+use Rattle.cojp_map.proofs.Maps.{if_again, standing-seen}
+use Rattle.cojp_read.specs.Pair.{reading_in, PairTaken}
+use Rattle.cojp_read.proofs.Pairs.{put-reading, taken-known, taken-passed}
 use Rattle.cojp_read.specs.request.Requests.{request_parameter_of, role_in, RoleSpec, unsupported_in, UnsupportedSpec}
 use Rattle.cojp_read.specs.declared.request.parameter.RequestParameter.{RequestParameter}
 use Rattle.cojp_read.specs.declared.request.parameter.RequestParameter.TheVariants as parameter
@@ -47,12 +45,12 @@ by-version-same Published a = refl
 -- ---- a list of reports: taken, or reported itself
 module _ (held : Disposition) (f : ErrorReports) (l : ListRead) (next : ℕ) (first : seen held ≡ false) where
   pub says-taken : l.good ≡ true
-      → UnsupportedSpec held f (list_taken l) (record { verdict = verdict.Accepted; parameter = list_taken l; errors = f; next = next })
+      → UnsupportedSpec held f (list_taken l) (Ok (record { parameter = list_taken l; errors = f; next = next }))
   says-taken h g e = rw (first, h, ← e)
 
   pub says-reported : l.good ≡ false
       → UnsupportedSpec held f (list_taken l)
-      (record { verdict = verdict.Accepted; parameter = list_taken l; errors = added f 1 8; next = next })
+      (Ok (record { parameter = list_taken l; errors = added f 1 8; next = next }))
   says-reported h g e = rw (first, h, ← e)
 
 -- ---- what a form makes of a label goes by the parameter that it names
@@ -136,70 +134,58 @@ put-once : {A B : Type 0} (f : A → B) (again : Bool) (x : Reading A) → map_r
 put-once f true x = refl
 put-once f false x = refl
 
--- ---- one turn of the walk: what is gathered after the pair, by its label; p is the answer about the label
-module _ (v : Version) (named : Bool) (q : JoinRequest) (s l : List ℕ) (p : LabelResult) (t : PairLabelSpec s l p)
-    (named' : Bool) (q' : JoinRequest) (w : Verdict) (next : ℕ) where
-  abbrev old : RequestState
-  old = request_state named q
-
-  pub record Turn : Type 0 where
-    pub turned : Turned (request_form v) old s l w (request_state named' q') next
-    pub few : q'.unknown ≤ q.unknown + 1
-
+-- ---- one pair, by its label; p is the answer about the label
+module _ (v : Version) (g : RequestState) (s l : List ℕ) (p : Result (ℕ × ℕ) Refusal)
+    (t : PairLabelSpec s l p) (q : ℕ × ℕ) (h : p ≡ Ok q) where
   abbrev here : View
-  here = value_view (drop p.value s)
+  here = value_view (drop q.1 s)
 
   abbrev after : List ℕ
-  after = after_value (drop p.value s)
+  after = after_value (drop q.1 s)
 
-  -- a known label: w₀, g₀ and next₀ are what its reader gave
-  turn-known : (x : RequestParameter) → request_parameter_of v p.label ≡ x → is_known x ≡ 1 → (w₀ : Verdict) (g₀ : RequestState) (next₀ : ℕ)
-      → result_of w₀ g₀ ≡ known v old here p.label → Accepting w₀ (EndsAt s next₀ after) → g₀.request.unknown ≡ q.unknown
-      → next ≡ next₀ → named' ≡ g₀.named → q' ≡ g₀.request → w ≡ w₀ → Turn
-  turn-known x e k w₀ g₀ next₀ says ends same n-is b-is q-is w-is = record {
-    turned = rw (n-is, b-is, q-is, w-is) (turned-known (request_form v) old s l p t (positive v p.label x e k) w₀ g₀ next₀ says ends);
-    few = rw q-is (omega (arith, same));
-  }
+  abbrev Taken : Result ℕ Refusal → RequestState → Type 0
+  Taken = PairTaken (request_form v) g s l
 
-  pub turn-role : request_parameter_of v p.label ≡ parameter.Role → (r : RoleRead)
-      → RoleSpec v named q.errors (role_judged here) r × Accepting r.verdict (EndsAt s r.next after)
-      → next ≡ r.next → named' ≡ true → q' ≡ (role_in old r).request → w ≡ r.verdict → Turn
-  turn-role e r (says, ends) =
-      turn-known parameter.Role e refl r.verdict (role_in old r) r.next
-      (says old refl ∙ known-once v old here p.label parameter.Role e named refl) ends refl
+  -- a known label, whose reader gave the answer r
+  pair-known : (x : RequestParameter) → request_parameter_of v q.0 ≡ x → is_known x ≡ 1 → (again : Bool)
+      → standing_for g x ≡ if_again again → (r : Result ℕ Refusal) (d : RequestState)
+      → reading_in (λ (n : ℕ). d) r ≡ once again (taking_for v g here x) → IfOk r (λ (n : ℕ). EndsAt s n after) → Taken r d
+  pair-known x e k again stands r d says ends =
+      taken-known (request_form v) g s l p t q h (positive v q.0 x e k) r d (says ∙ known-once v g here q.0 x e again stands) ends
 
-  pub turn-network : request_parameter_of v p.label ≡ parameter.Network → (r : OctetsRead)
-      → (r ≡ octets_answer (once (seen q.network.disposition) (by_version_of v (no_octets_parameter report.Discarded) (octets_read 0 here)))
-      r.next)
-      × Accepting r.verdict (EndsAt s r.next after)
-      → next ≡ r.next → named' ≡ named → q' ≡ (with_network old r.parameter).request → w ≡ r.verdict → Turn
-  turn-network e r (says, ends) =
-      let again = seen q.network.disposition in
+  pub role-read : request_parameter_of v q.0 ≡ parameter.Role → (r : RoleRead)
+      → RoleSpec v g.named g.request.errors (role_judged here) (Ok r) → EndsAt s r.next after → Taken (Ok r.next) (role_in g r)
+  role-read e r says ends = pair-known parameter.Role e refl g.named refl (Ok r.next) (role_in g r) (says g refl) ends
+
+  pub role-refused : request_parameter_of v q.0 ≡ parameter.Role → (k : Refusal)
+      → RoleSpec v g.named g.request.errors (role_judged here) (Err k) → (d : RequestState) → Taken (Err k) d
+  role-refused e k says d = pair-known parameter.Role e refl g.named refl (Err k) d (says g refl) tt
+
+  pub network-taken : request_parameter_of v q.0 ≡ parameter.Network → (r : Result ℕ Refusal) (o : OctetsParameter)
+      → reading_in (λ (n : ℕ). o) r
+      ≡ once (seen g.request.network.disposition) (by_version_of v (no_octets_parameter report.Discarded) (octets_read 0 here))
+      → IfOk r (λ (n : ℕ). EndsAt s n after) → Taken r (with_network g o)
+  network-taken e r o says ends =
+      let again = seen g.request.network.disposition in
       let value = by_version_of v (no_octets_parameter report.Discarded) (octets_read 0 here) in
-      let put_in =
-      put-said (with_network old) r.verdict r.parameter (once again value) (octets-said r (once again value) r.next says) in
-      turn-known parameter.Network e refl r.verdict (with_network old r.parameter) r.next
-      (put_in ∙ put-once (with_network old) again value
-      ∙ known-once v old here p.label parameter.Network e again (standing-seen q.network.disposition)) ends refl
+      pair-known parameter.Network e refl again (standing-seen g.request.network.disposition) r (with_network g o)
+      (put-reading (with_network g) r o (once again value) says ∙ put-once (with_network g) again value) ends
 
-  pub turn-unsupported : request_parameter_of v p.label ≡ parameter.Unsupported → (r : UnsupportedRead)
-      → UnsupportedSpec q.unsupported.disposition q.errors (unsupported_taken here) r
-      × Accepting r.verdict (EndsAt s r.next after)
-      → next ≡ r.next → named' ≡ named → q' ≡ (unsupported_in old r).request → w ≡ r.verdict → Turn
-  turn-unsupported e r (says, ends) =
-      let held = q.unsupported.disposition in
-      turn-known parameter.Unsupported e refl r.verdict (unsupported_in old r) r.next
-      (says old refl ∙ known-once v old here p.label parameter.Unsupported e (seen held) (standing-seen held)) ends refl
+  pub unsupported-read : request_parameter_of v q.0 ≡ parameter.Unsupported → (r : UnsupportedRead)
+      → UnsupportedSpec g.request.unsupported.disposition g.request.errors (unsupported_taken here) (Ok r) → EndsAt s r.next after
+      → Taken (Ok r.next) (unsupported_in g r)
+  unsupported-read e r says ends =
+      pair-known parameter.Unsupported e refl (seen g.request.unsupported.disposition) (standing-seen g.request.unsupported.disposition)
+      (Ok r.next) (unsupported_in g r) (says g refl) ends
 
-  pub turn-passed : request_parameter_of v p.label ≡ parameter.Unknown → (end : ℕ) → EndsAt s end after
-      → next ≡ end → named' ≡ named → q' ≡ (request_passing old).request → w ≡ p.verdict → Turn
-  turn-passed e end ends n-is b-is q-is w-is = record {
-    turned =
-        rw (n-is, b-is, q-is, w-is)
-        (turned-passed (request_form v) old s l p t (standing-is v old here p.label ∙ ap (standing_for old) e) end ends);
-    few = rw q-is (omega arith);
-  }
+  pub unsupported-refused : request_parameter_of v q.0 ≡ parameter.Unsupported → (k : Refusal)
+      → UnsupportedSpec g.request.unsupported.disposition g.request.errors (unsupported_taken here) (Err k) → (d : RequestState)
+      → Taken (Err k) d
+  unsupported-refused e k says d =
+      pair-known parameter.Unsupported e refl (seen g.request.unsupported.disposition) (standing-seen g.request.unsupported.disposition)
+      (Err k) d (says g refl) tt
 
--- ---- the answer to what was gathered
-abbrev pub answer_to : Version → Reading RequestState → RequestRead
-answer_to v x = request_answer (bind x (settled v))
+  pub passed : request_parameter_of v q.0 ≡ parameter.Unknown → (end : ℕ) → EndsAt s end after
+      → Taken (Ok end) (request_passing g)
+  passed e end ends =
+      taken-passed (request_form v) g s l p t q h (standing-is v g here q.0 ∙ ap (standing_for g) e) end ends

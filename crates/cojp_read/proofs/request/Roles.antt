@@ -1,12 +1,13 @@
 -- The role of a join request: what its value is judged to be, and what is gathered of it, by the form.
+use Rattle.std.specs.Prelude.{Ok, Result}
 use Prim.Native.Nat.{ℕ, ◌≤◌, ◌<◌}
 use mathlib.Core.Path.{◌≡◌, refl, ap, sym, ◌∙◌}
 use mathlib.Core.Bool.{Bool, false}
 use mathlib.Core.List.{List}
 use lib.ListN.{drop}
 use borrow.Author.Tests.{le-leb, lt-leb}
+use Rattle.refusal.specs.declared.Refusal.{Refusal}
 use Rattle.refusal.specs.declared.Refusal.TheVariants as refusal
-use Rattle.refusal.specs.declared.Verdict.TheVariants as verdict
 use Rattle.cbor.specs.View.{ValueAt, ValueSpec, rest_of}
 use Rattle.cbor.specs.declared.value.Value.{Value}
 use Rattle.cbor.specs.declared.value.Value.TheVariants as vv
@@ -53,19 +54,19 @@ module _ (s : List ℕ) (at : ℕ) (v : Value) (e : ValueSpec s at v) where
       go (vv.Minus x p) w no_number = rw w.view
 
 -- ---- what is gathered of it, f being the reports before it
-pub says_first : (v : Version) (named : Bool) (f : ErrorReports) (j k : Judgement ℕ) (r : RoleRead) → named ≡ false → j ≡ k
+pub says_first : (v : Version) (named : Bool) (f : ErrorReports) (j k : Judgement ℕ) (r : Result RoleRead Refusal) → named ≡ false → j ≡ k
     → RoleSpec v false f k r → RoleSpec v named f j r
 says_first v named f j k r first e says = rw (first, e) says
 
 module _ (v : Version) (f : ErrorReports) where
-  pub says-unfit : (r : RoleRead) → BadRole v refusal.Role f 0 r → RoleSpec v false f unfit r
+  pub says-unfit : (r : Result RoleRead Refusal) → BadRole v refusal.Role f 0 r → RoleSpec v false f unfit r
   says-unfit r bad g e = bad g ∙ go v
     where
       go : (v : Version) → by_version v (refused refusal.Role) (read (with_errors (with_role g 0) (added f 0 1))) ≡ role_gathered v g unfit
       go Draft = refl
       go Published = rw (← e)
 
-  pub says-broken : (r : RoleRead) → BadRole v refusal.«Type» f 1 r → RoleSpec v false f broken r
+  pub says-broken : (r : Result RoleRead Refusal) → BadRole v refusal.«Type» f 1 r → RoleSpec v false f broken r
   says-broken r bad g e = bad g ∙ go v
     where
       go : (v : Version) → by_version v (refused refusal.«Type») (read (with_errors (with_role g 0) (added f 1 1))) ≡ role_gathered v g
@@ -74,9 +75,9 @@ module _ (v : Version) (f : ErrorReports) where
       go Published = rw (← e)
 
   pub says-good : (named : Bool) (j : Judgement ℕ) (n next : ℕ) → named ≡ false → j ≡ good n
-      → RoleSpec v named f j (record { verdict = verdict.Accepted; role = n; errors = f; next = next })
+      → RoleSpec v named f j (Ok (record { role = n; errors = f; next = next }))
   says-good named j n next first e =
-      says_first v named f j (good n) (record { verdict = verdict.Accepted; role = n; errors = f; next = next }) first e
+      says_first v named f j (good n) (Ok (record { role = n; errors = f; next = next })) first e
       (λ g same. go v g same)
     where
       go : (v : Version) (g : RequestState) → g.request.errors ≡ f → read (with_errors (with_role g n) f) ≡ role_gathered v g (good n)

@@ -7,7 +7,8 @@ use native.Mathlib.Omega.{arith}
 use native.Mathlib.Numerals.{add-one}
 use lib.Dec.{eqb}
 use lib.ListN.{length, take, drop, get_or, length-append, length-take, take-append-drop}
-use lib.Seq.{take-suc, take_all, get_or-take}
+use lib.Seq.{take-suc, take_all}
+use Rattle.std.proofs.lemmas.List.{take_min}
 use Rattle.byte_io.specs.Write.{Wrote}
 use Rattle.byte_io.specs.WriteLemmas.{seam}
 use Rattle.cbor.specs.Encode.{shortest, encode, encodes, encode_pairs, extra_of}
@@ -98,44 +99,58 @@ groups-less ks i =
     rw (← groups-append (take i ks) (drop i ks), take-append-drop i ks) in
     omega (arith, ap (λ (is : Items). length (encodes is)) e, chain_length (groups_items (take i ks)) (groups_items (drop i ks)))
 
-module _ (set : KeySet) (i : ℕ) (d : Key) (h : i < length (keys_of set)) where
-  -- one key more
-  next : groups_items (take (i + 1) (keys_of set)) ≡ chain (groups_items (take i (keys_of set))) (group_items (get_or set.keys i d))
-  next =
-      let k : get_or (keys_of set) i d ≡ get_or set.keys i d =
-      get_or-take set.count set.keys i d (omega (arith, length-take set.count set.keys)) in
-      rw (add-one i, take-suc (keys_of set) i d h, k)
-      (groups-append (take i (keys_of set)) (get_or set.keys i d ∷ []) ∙ rw (chain-none (group_items (get_or set.keys i d))))
+-- the keys that a loop over the first `n` places goes over are those of the set
+pub listed : (set : KeySet) (n : ℕ) → n ≡ length (keys_of set) → take n set.keys ≡ keys_of set
+listed set n e = ap (λ (k : ℕ). take k set.keys) (e ∙ length-take set.count set.keys) ∙ take_min set.count set.keys
 
-  pub sizes_step : {r s t : Size} → ItemsSize (groups_items (take i (keys_of set))) (4 * i) (37 * i) r
-      → ItemsSize (group_items (get_or set.keys i d)) 4 37 s → Sum r s t
-      → ItemsSize (groups_items (take (i + 1) (keys_of set))) (4 * (i + 1)) (37 * (i + 1)) t
+module _ (ks : List Key) (i : ℕ) (d : Key) (h : i < length ks) where
+  -- one key more
+  next : groups_items (take (i + 1) ks) ≡ chain (groups_items (take i ks)) (group_items (get_or ks i d))
+  next =
+      rw (add-one i, take-suc ks i d h)
+      (groups-append (take i ks) (get_or ks i d ∷ []) ∙ rw (chain-none (group_items (get_or ks i d))))
+
+  pub sizes_step : {r s t : Size} → ItemsSize (groups_items (take i ks)) (4 * i) (37 * i) r
+      → ItemsSize (group_items (get_or ks i d)) 4 37 s → Sum r s t
+      → ItemsSize (groups_items (take (i + 1) ks)) (4 * (i + 1)) (37 * (i + 1)) t
   sizes_step x y z =
-      let w = sizes-chain (groups_items (take i (keys_of set))) (group_items (get_or set.keys i d)) x y z in
+      let w = sizes-chain (groups_items (take i ks)) (group_items (get_or ks i d)) x y z in
       rw next (record { members = w.members; bytes = w.bytes; few = omega (arith, w.few); small = omega (arith, w.small) })
 
-  pub groups-room : (n : ℕ) → length (encodes (groups_items (keys_of set))) ≤ n
-      → length (encodes (groups_items (take i (keys_of set)))) + key_length (get_or set.keys i d) ≤ n
+  pub groups-room : (n : ℕ) → length (encodes (groups_items ks)) ≤ n
+      → length (encodes (groups_items (take i ks))) + key_length (get_or ks i d) ≤ n
   groups-room n f =
       omega (
         arith,
-        groups-less (keys_of set) (i + 1),
+        groups-less ks (i + 1),
         ap (λ (is : Items). length (encodes is)) next,
-        chain_length (groups_items (take i (keys_of set))) (group_items (get_or set.keys i d)),
-        group-length (get_or set.keys i d),
+        chain_length (groups_items (take i ks)) (group_items (get_or ks i d)),
+        group-length (get_or ks i d),
       )
 
-  pub groups-seam : {b b' e : List ℕ} {n m : ℕ} → length (encodes (groups_items (keys_of set))) ≤ length b
-      → Wrote (encodes (groups_items (take i (keys_of set)))) b n b'
-      → Wrote (encodes (group_items (get_or set.keys i d))) (take (length b' - n) (drop n b')) m e
-      → Wrote (encodes (groups_items (take (i + 1) (keys_of set)))) b (n + m) (take n b' ++ (e ++ drop (length b' - n) (drop n b')))
+  pub groups-seam : {b b' e : List ℕ} {n m : ℕ} → length (encodes (groups_items ks)) ≤ length b
+      → Wrote (encodes (groups_items (take i ks))) b n b'
+      → Wrote (encodes (group_items (get_or ks i d))) (take (length b' - n) (drop n b')) m e
+      → Wrote (encodes (groups_items (take (i + 1) ks))) b (n + m) (take n b' ++ (e ++ drop (length b' - n) (drop n b')))
   groups-seam {b} f w v =
-      rw (next, chain-bytes (groups_items (take i (keys_of set))) (group_items (get_or set.keys i d)))
-      (seam (omega (arith, groups-room (length b) f, group-length (get_or set.keys i d))) w v)
+      rw (next, chain-bytes (groups_items (take i ks)) (group_items (get_or ks i d)))
+      (seam (omega (arith, groups-room (length b) f, group-length (get_or ks i d))) w v)
 
 -- all of them
-pub all-keys : (ks : List Key) (i : ℕ) → length ks ≤ i → take i ks ≡ ks
-all-keys ks i h = take_all i ks h
+module _ (set : KeySet) (n i : ℕ) (e : n ≡ length (keys_of set)) (h : length (take n set.keys) ≤ i) where
+  pub all-keys : take i (take n set.keys) ≡ keys_of set
+  all-keys = take_all i (take n set.keys) h ∙ listed set n e
+
+  pub all-sizes : n ≤ 8 → i ≤ length (take n set.keys) → {r : Size}
+      → ItemsSize (groups_items (take i (take n set.keys))) (4 * i) (37 * i) r → ItemsSize (groups_items (keys_of set)) 32 296 r
+  all-sizes f g z =
+      let w = rw all-keys at z in
+      let few : i ≤ 8 = omega (arith, length-take n set.keys) in
+      record { members = w.members; bytes = w.bytes; few = omega (arith, w.few); small = omega (arith, w.small) }
+
+  pub all-groups : {b b' : List ℕ} {m : ℕ} → Wrote (encodes (groups_items (take i (take n set.keys)))) b m b'
+      → Wrote (encodes (groups_items (keys_of set))) b m b'
+  all-groups w = rw all-keys at w
 
 -- ---- the parameter
 module _ (ks : List Key) (m : ℕ) (e : m ≡ count (groups_items ks)) where

@@ -1,10 +1,11 @@
 -- Labels with their values: their bytes, and how a destination holds them.
+use Rattle.std.specs.Prelude.{Result}
+use Rattle.refusal.specs.declared.Refusal.{Refusal}
 use Prim.Native.Nat.{ℕ, ◌+◌, ◌-◌, ◌≤◌}
 use mathlib.Core.Path.{◌≡◌, ap, sym, ◌∙◌}
 use mathlib.Core.List.{List, ◌++◌, append_assoc, append-nil}
 use lib.ListN.{length, take, drop, length-append}
 use Rattle.byte_io.specs.Write.{Did, Wrote, emit}
-use Rattle.byte_io.specs.declared.WriteResult.{WriteResult}
 use Rattle.byte_io.specs.WriteLemmas.{seam}
 use Rattle.cbor.specs.Encode.{shortest, encode, encodes, encode_pairs}
 use Rattle.cbor.specs.Item.{Item, Items, Pairs, array, count}
@@ -34,7 +35,7 @@ array-length n is = ap length (array-bytes n is) ∙ length-append (shortest 0 n
 pub wrote-same : {ps qs : Pairs} {d d' : List ℕ} {n : ℕ} → ps ≡ qs → Wrote (encode_pairs qs) d n d' → Wrote (encode_pairs ps) d n d'
 wrote-same e w = rw e w
 
-pub did-same : {ps qs : Pairs} {d d' : List ℕ} {r : WriteResult} → ps ≡ qs → Did (emit (encode_pairs qs)) d r d'
+pub did-same : {ps qs : Pairs} {d d' : List ℕ} {r : Result ℕ Refusal} → ps ≡ qs → Did (emit (encode_pairs qs)) d r d'
     → Did (emit (encode_pairs ps)) d r d'
 did-same e w = rw e w
 

@@ -1,26 +1,24 @@
 -- A taken list is one pair: its label, and the head of its count and its bytes.
+use Rattle.std.specs.Prelude.{Result, Ok, Err}
+use Rattle.refusal.specs.declared.Refusal.{Refusal}
 use Prim.Native.Nat.{ℕ, ◌+◌, ◌-◌, ◌≤◌, ◌<◌}
-use mathlib.Core.Path.{◌≡◌, refl, ap, sym, ◌∙◌}
+use mathlib.Core.Path.{◌≡◌, refl, ap, ◌∙◌}
 use mathlib.Core.Bool.{Bool, true, false}
 use mathlib.Core.List.{List, [], ◌++◌}
 use native.Mathlib.Omega.{arith}
 use borrow.Author.Tests.{le-leb, lt-leb}
 use lib.Dec.{leb}
-use lib.ListN.{length, take, drop, length-append, length-take, length-drop}
+use lib.ListN.{length, take, drop, length-append}
 use lib.Seq.{length-take-le}
 use Rattle.lemmas.specs.logic.Tests.{both_left}
 use Rattle.refusal.specs.declared.Refusal.TheVariants.{Room, Range}
 use Rattle.byte_io.specs.Write.{Did, Wrote, emit}
-use Rattle.byte_io.specs.WriteLemmas.{did-emit, did-kept, did-room, did-refuse, seam, wrote_as, wrote-length}
-use Rattle.cbor.specs.Answer.{head_plan}
+use Rattle.byte_io.specs.WriteLemmas.{did-emit, did-room, did-refuse, seam}
 use Rattle.cbor.specs.Encode.{shortest, encode_pairs, extra_of}
 use Rattle.cbor.specs.HeadLaws.{HeadLaws}
 use Rattle.cbor.specs.Item.{array, empty, count_pairs}
 use Rattle.cbor.specs.View.{Scalar}
-use Rattle.cbor.specs.Writing.{head-did}
-use Rattle.byte_io.specs.declared.WriteResult.{WriteResult}
-use Rattle.byte_io.specs.declared.WriteResult.TheVariants as wv
-use Rattle.cojp.specs.Lists.{Picked, bytes_in, items_in, kept, same_as, list_answer, fitting, list_plan}
+use Rattle.cojp.specs.Lists.{Picked, bytes_in, items_in, kept, same_as, list_answer, fitting}
 use Rattle.cojp.specs.Bytes.{members_at}
 use Rattle.cojp.specs.Reading.{if_taken}
 use Rattle.cojp.specs.Writing.{labelled, list_pairs, list_in_range}
@@ -48,41 +46,22 @@ module _ (heads : HeadLaws) (label : ℕ) (l : ItemList) {n m : ℕ} (e : n ≡ 
     whole : length (array_bytes label l) ≡ n + m + l.len
     whole = omega (arith, array-length, length-take-le l.len l.bytes (omega arith))
 
-    planned : {r : WriteResult} {d' : List ℕ} → Did (emit (array_bytes label l)) d r d' → Did (array_plan label l) d r d'
+    planned : {r : Result ℕ Refusal} {d' : List ℕ} → Did (emit (array_bytes label l)) d r d' → Did (array_plan label l) d r d'
     unfolding array_plan
     planned w = rw (le-leb l.len 253 i) w
 
-    pub array-room : length d < n + m + l.len → Did (array_plan label l) d (wv.Refused Room) d
+    pub array-room : length d < n + m + l.len → Did (array_plan label l) d (Err Room) d
     array-room h = planned (did-room (array_bytes label l) d (omega (arith, whole)))
 
-    -- there is room; the label was written, and the destination is d'
-    module _ (h : n + m + l.len ≤ length d) {r : WriteResult} {d' : List ℕ} (w : Did (head_plan 0 label) d r d') where
-      label-wrote : Wrote (shortest 0 label) d n d'
-      label-wrote =
-          let k =
-          did-kept (shortest 0 label) d r d' (omega (arith, heads.length-head 0 label)) (head-did 0 label d r d' (omega arith) w) in
-          wrote_as n (omega (arith, heads.length-head 0 label)) k
+    -- there is room: the label was written, and the array to the part after it
+    pub array-done : n + m + l.len ≤ length d → {a k : ℕ} {d' p : List ℕ} → Wrote (shortest 0 label) d a d'
+        → Wrote (shortest 4 l.count ++ bytes_in l) (take (length d' - a) (drop a d')) k p
+        → Did (array_plan label l) d (Ok (a + k)) (take a d' ++ (p ++ drop (length d' - a) (drop a d')))
+    array-done h w v =
+        let parts = length-append (shortest 0 label) (shortest 4 l.count ++ bytes_in l) in
+        planned (did-emit (omega (arith, whole)) (seam (omega (arith, whole, parts)) w v))
 
-      label_kept : length d' ≡ length d
-      label_kept = wrote-length label-wrote (omega (arith, heads.length-head 0 label))
-
-      listed : {p e : List ℕ} {q : WriteResult} → Did (list_plan l) p q e → Did (emit (shortest 4 l.count ++ bytes_in l)) p q e
-      unfolding list_plan
-      listed v = rw (le-leb l.len 253 i) at v
-
-      -- the array was written to the part after the label, which now is p
-      pub array-done : (p : List ℕ) {q : WriteResult} → Did (list_plan l) (take (length d' - n) (drop n d')) q p
-          → Did (array_plan label l) d (wv.Length (n + m + l.len)) (take n d' ++ (p ++ drop (length d' - n) (drop n d')))
-      array-done p {q} v =
-          let part = take (length d' - n) (drop n d') in
-          let is = shortest 4 l.count ++ bytes_in l in
-          let k = length-append (shortest 0 label) is in
-          let room : length is ≤ length part =
-          simp (length-take, length-drop) (omega (arith, label_kept, whole, k, heads.length-head 0 label)) in
-          let x = seam (omega (arith, whole, k)) label-wrote (did-kept is part q p room (listed v)) in
-          planned (did-emit (omega (arith, whole)) (wrote_as (n + m + l.len) (sym whole) x))
-
-pub array-range : (label : ℕ) (l : ItemList) (d : List ℕ) → 253 < l.len → Did (array_plan label l) d (wv.Refused Range) d
+pub array-range : (label : ℕ) (l : ItemList) (d : List ℕ) → 253 < l.len → Did (array_plan label l) d (Err Range) d
 unfolding array_plan
 array-range label l d h = rw (lt-leb l.len 253 h) (did-refuse Range d)
 
@@ -145,5 +124,5 @@ module _ (label : ℕ) (p : ListParameter) (h : list_fits p ≡ true) where
   plan Taken k = simp k
   plan Discarded k = refl
 
-  pub list-did : {d d' : List ℕ} {r : WriteResult} → Did (list_parameter_plan label p) d r d' → Did (emit (list_bytes label p)) d r d'
+  pub list-did : {d d' : List ℕ} {r : Result ℕ Refusal} → Did (list_parameter_plan label p) d r d' → Did (emit (list_bytes label p)) d r d'
   list-did w = rw (plan p.disposition h) at w

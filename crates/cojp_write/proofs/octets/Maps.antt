@@ -1,32 +1,22 @@
 -- An object is a map whose head takes one byte: RANGE over 256 bytes, ROOM, and what is written where there is room.
+use Rattle.std.specs.Prelude.{Ok, Err}
 use Prim.Native.Nat.{ℕ, ◌+◌, ◌≤◌, ◌<◌}
-use mathlib.Core.Path.{◌≡◌, sym, ◌∙◌}
+use mathlib.Core.Path.{◌≡◌, ◌∙◌}
 use mathlib.Core.List.{List, ◌++◌}
 use native.Mathlib.Omega.{arith}
 use lib.ListN.{length, length-append}
 use borrow.Author.Tests.{le-leb, lt-leb}
 use Rattle.refusal.specs.declared.Refusal.TheVariants.{Room, Range}
 use Rattle.byte_io.specs.Write.{Did, Wrote, emit, refuse}
-use Rattle.cbor.specs.Answer.{head_plan}
 use Rattle.cbor.specs.Encode.{shortest, encode, encode_pairs}
 use Rattle.cbor.specs.HeadLaws.{HeadLaws}
 use Rattle.cbor.specs.Item.{Pairs, map_item, count_pairs}
-use Rattle.byte_io.specs.declared.WriteResult.{WriteResult}
-use Rattle.byte_io.specs.declared.WriteResult.TheVariants as written
-use Rattle.byte_io.specs.WriteLemmas.{did-room, did-emit, did-kept, wrote_as}
-use Rattle.cbor.specs.Writing.{head-did}
+use Rattle.byte_io.specs.WriteLemmas.{did-room, did-emit}
 use Rattle.cojp.specs.Writing.{fits}
 use Rattle.cojp_write.specs.octets.Size.{PairsSize}
 use Rattle.cojp_write.specs.declared.octets.size.Size.{Size}
 
 module _ (heads : HeadLaws) where
-  -- a head of one byte that has room
-  pub short-wrote : (m n : ℕ) {d d' : List ℕ} {r : WriteResult} → m ≤ 7 → n ≤ 23 → 1 ≤ length d → Did (head_plan m n) d r d'
-      → Wrote (shortest m n) d 1 d'
-  short-wrote m n {d} {d'} {r} h l f w =
-      let one = heads.short-head m n l in
-      wrote_as 1 (sym one) (did-kept (shortest m n) d r d' (omega arith) (head-did m n d r d' h w))
-
   pub map-length : (ps : Pairs) → count_pairs ps ≤ 23 → length (encode (map_item ps)) ≡ 1 + length (encode_pairs ps)
   map-length ps h = length-append (shortest 5 (count_pairs ps)) (encode_pairs ps) ∙ rw (heads.short-head 5 (count_pairs ps) h)
 
@@ -41,11 +31,11 @@ module _ (heads : HeadLaws) where
     pub map-within : 1 + s.bytes ≤ 256 → fits (encode (map_item ps)) ≡ emit (encode (map_item ps))
     map-within h = rw (le-leb (length (encode (map_item ps))) 256 (omega (arith, whole)))
 
-    pub map-room : length d < 1 + s.bytes → Did (emit (encode (map_item ps))) d (written.Refused Room) d
+    pub map-room : length d < 1 + s.bytes → Did (emit (encode (map_item ps))) d (Err Room) d
     map-room h = did-room (encode (map_item ps)) d (omega (arith, whole))
 
     module _ (room : 1 + s.bytes ≤ length d) where
-      pub map-emit : {n : ℕ} {d' : List ℕ} → Wrote (encode (map_item ps)) d n d' → Did (emit (encode (map_item ps))) d (written.Length n) d'
+      pub map-emit : {n : ℕ} {d' : List ℕ} → Wrote (encode (map_item ps)) d n d' → Did (emit (encode (map_item ps))) d (Ok n) d'
       map-emit w = did-emit (omega (arith, whole)) w
 
 -- the same with the number and the bytes of the pairs by other names

@@ -1,4 +1,6 @@
 -- A taken byte string is one pair: its label, and a byte string of at most 16 bytes.
+use Rattle.std.specs.Prelude.{Result, Ok, Err}
+use Rattle.refusal.specs.declared.Refusal.{Refusal}
 use Prim.Native.Nat.{ℕ, ◌+◌, ◌-◌, ◌≤◌, ◌<◌}
 use mathlib.Core.Path.{◌≡◌, refl, sym, ◌∙◌}
 use mathlib.Core.Bool.{Bool, true, false}
@@ -12,8 +14,6 @@ use Rattle.cbor.specs.Answer.{head_plan}
 use Rattle.cbor.specs.Encode.{shortest, encode, encode_pairs, extra_of}
 use Rattle.cbor.specs.HeadLaws.{HeadLaws}
 use Rattle.cbor.specs.Item.{bytes, empty}
-use Rattle.byte_io.specs.declared.WriteResult.{WriteResult}
-use Rattle.byte_io.specs.declared.WriteResult.TheVariants as wv
 use Rattle.byte_io.specs.WriteLemmas.{did-emit, did-kept, did-room, wrote_as, wrote-length}
 use Rattle.cbor.specs.Writing.{head-did}
 use Rattle.cojp.specs.Octets.{bytes_in}
@@ -40,11 +40,11 @@ module _ (heads : HeadLaws) where
     whole : length (encode_pairs (labelled label (bytes s))) ≡ l + h + length s
     whole = omega (arith, labelled-length label (bytes s), heads.length-head 0 label, whole-string s)
 
-    pub string-refused : length d < l + h + length s → Did (emit (encode_pairs (labelled label (bytes s)))) d (wv.Refused Room) d
+    pub string-refused : length d < l + h + length s → Did (emit (encode_pairs (labelled label (bytes s)))) d (Err Room) d
     string-refused g = did-room (encode_pairs (labelled label (bytes s))) d (omega (arith, whole))
 
     -- there is room; the label was written, and the destination is d'
-    module _ (g : l + h + length s ≤ length d) {r : WriteResult} {d' : List ℕ} (w : Did (head_plan 0 label) d r d') where
+    module _ (g : l + h + length s ≤ length d) {r : Result ℕ Refusal} {d' : List ℕ} (w : Did (head_plan 0 label) d r d') where
       label-wrote : Wrote (shortest 0 label) d l d'
       label-wrote =
           let k =
@@ -55,8 +55,8 @@ module _ (heads : HeadLaws) where
       label_kept = wrote-length label-wrote (omega (arith, heads.length-head 0 label))
 
       -- the byte string was written to the part after the label, which now is p
-      pub string-done : (p : List ℕ) {q : WriteResult} → Did (emit (encode (bytes s))) (take (length d' - l) (drop l d')) q p
-          → Did (emit (encode_pairs (labelled label (bytes s)))) d (wv.Length (l + h + length s))
+      pub string-done : (p : List ℕ) {q : Result ℕ Refusal} → Did (emit (encode (bytes s))) (take (length d' - l) (drop l d')) q p
+          → Did (emit (encode_pairs (labelled label (bytes s)))) d (Ok (l + h + length s))
           (take l d' ++ (p ++ drop (length d' - l) (drop l d')))
       string-done p {q} v =
           let part = take (length d' - l) (drop l d') in

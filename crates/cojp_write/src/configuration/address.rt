@@ -16,8 +16,7 @@ pub(crate) fn address_size(p: AddressParameter) -> Size
     ensures { PairsSize (address_pairs p) 1 14 result }
 {
     cbor::head_laws();
-    let report = p.disposition;
-    if is_taken(report) {
+    if is_taken(p.disposition) {
         let lease = optional_size(p.value.leased, p.value.lease);
         return Size {
             members: 1,
@@ -32,9 +31,8 @@ fn put_place(dst: &mut [u8], a: ShortAddress, members: u64) -> usize
     requires { (members ≡ count (address_items a)) × (address_length a members ≤ length dst.old) }
     ensures { Wrote (encode_pairs (labelled 3 (array (address_items a)))) dst.old result dst.new }
 {
-    let bytes = a.bytes;
     let n1 = put_labelled(dst, 3, 4, members);
-    let n2 = n1 + put_bytes(&mut dst[n1..], &bytes);
+    let n2 = n1 + put_bytes(&mut dst[n1..], &a.bytes);
     n2 + put_optional(&mut dst[n2..], a.leased, a.lease)
 }
 
@@ -42,8 +40,7 @@ pub(crate) fn put_address(dst: &mut [u8], p: AddressParameter) -> usize
     requires { length (encode_pairs (address_pairs p)) ≤ length dst.old }
     ensures { Wrote (encode_pairs (address_pairs p)) dst.old result dst.new }
 {
-    let report = p.disposition;
-    if is_taken(report) {
+    if is_taken(p.disposition) {
         let lease = optional_size(p.value.leased, p.value.lease);
         let members = 1 + lease.members;
         return put_place(dst, p.value, members as u64);

@@ -18,10 +18,9 @@ pub(crate) fn info_size(info: AdditionalInfo) -> Size
     if len == 0 {
         return no_size();
     }
-    let bytes = 1 + len;
     Size {
         members: 1,
-        bytes: bytes,
+        bytes: 1 + len,
     }
 }
 
@@ -30,10 +29,8 @@ pub(crate) fn put_info(dst: &mut [u8], info: AdditionalInfo) -> usize
     ensures { Wrote (encodes (additional_info_items info)) dst.old result dst.new }
 {
     let spread = additional_info_bytes(info);
-    let n = spread.len;
-    let bytes = spread.bytes;
-    if n == 0 {
+    if spread.len == 0 {
         return 0;
     }
-    put_bytes(dst, &bytes[..n])
+    put_bytes(dst, &spread.bytes[..spread.len])
 }

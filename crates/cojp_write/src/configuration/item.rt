@@ -6,7 +6,6 @@ ghost use Rattle.cbor.specs.Item.{bytes};
 ghost use Rattle.cojp.specs.Writing.{lease_items};
 
 use crate::octets::put_head;
-use byte_io::WriteResult;
 use cbor::write::write_bytes;
 
 // A byte string.
@@ -14,11 +13,7 @@ pub(crate) fn put_bytes(dst: &mut [u8], s: &[u8]) -> usize
     requires { length (encode (bytes s.now)) ≤ length dst.old }
     ensures { Wrote (encode (bytes s.now)) dst.old result dst.new }
 {
-    let w = write_bytes(dst, s);
-    match w {
-        WriteResult::Refused(_) => 0,
-        WriteResult::Length(n) => n,
-    }
+    write_bytes(dst, s).unwrap_or(0)
 }
 
 // A number, where there is one.

@@ -29,22 +29,15 @@ fn key_size(k: Key) -> Size
     let source = info_size(info);
     let members = 2 + used.members + source.members;
     let bytes = name + used.bytes + 17 + source.bytes;
-    Size {
-        members: members,
-        bytes: bytes,
-    }
+    Size { members, bytes }
 }
 
 fn groups_size(set: KeySet) -> Size
     ensures { ItemsSize (groups_items (keys_of set)) 32 296 result }
 {
-    let n = set.len();
     let mut size = no_size();
-    let mut i = 0;
-    while i < n {
-        let key = set.keys[i];
-        size = plus(size, key_size(key));
-        i += 1;
+    for key in &set.keys[..set.len()] {
+        size = plus(size, key_size(*key));
     }
     size
 }
@@ -53,13 +46,11 @@ pub(crate) fn keys_size(p: KeysParameter) -> Size
     ensures { PairsSize (keys_pairs p) 1 299 result }
 {
     cbor::head_laws();
-    let report = p.disposition;
-    if is_taken(report) {
+    if is_taken(p.disposition) {
         let groups = groups_size(p.value);
-        let members = groups.members;
         return Size {
             members: 1,
-            bytes: 1 + head_len(members as u64) + groups.bytes,
+            bytes: 1 + head_len(groups.members as u64) + groups.bytes,
         };
     }
     no_size()
@@ -69,26 +60,19 @@ fn put_key(dst: &mut [u8], k: Key) -> usize
     requires { key_length k ≤ length dst.old }
     ensures { Wrote (encodes (group_items k)) dst.old result dst.new }
 {
-    let usage = k.usage;
-    let value = k.value;
-    let info = k.info;
     let n1 = put_head(dst, 0, k.identifier as u64);
-    let n2 = n1 + put_optional(&mut dst[n1..], usage != 0, usage as u64);
-    let n3 = n2 + put_bytes(&mut dst[n2..], &value);
-    n3 + put_info(&mut dst[n3..], info)
+    let n2 = n1 + put_optional(&mut dst[n1..], k.usage != 0, k.usage as u64);
+    let n3 = n2 + put_bytes(&mut dst[n2..], &k.value);
+    n3 + put_info(&mut dst[n3..], k.info)
 }
 
 fn put_groups(dst: &mut [u8], set: KeySet) -> usize
     requires { length (encodes (groups_items (keys_of set))) ≤ length dst.old }
     ensures { Wrote (encodes (groups_items (keys_of set))) dst.old result dst.new }
 {
-    let n = set.len();
     let mut at = 0;
-    let mut i = 0;
-    while i < n {
-        let key = set.keys[i];
-        at += put_key(&mut dst[at..], key);
-        i += 1;
+    for key in &set.keys[..set.len()] {
+        at += put_key(&mut dst[at..], *key);
     }
     at
 }
@@ -106,11 +90,9 @@ pub(crate) fn put_keys(dst: &mut [u8], p: KeysParameter) -> usize
     requires { length (encode_pairs (keys_pairs p)) ≤ length dst.old }
     ensures { Wrote (encode_pairs (keys_pairs p)) dst.old result dst.new }
 {
-    let report = p.disposition;
-    if is_taken(report) {
+    if is_taken(p.disposition) {
         let groups = groups_size(p.value);
-        let members = groups.members;
-        return put_set(dst, p.value, members as u64);
+        return put_set(dst, p.value, groups.members as u64);
     }
     0
 }

@@ -14,12 +14,10 @@ pub(crate) fn rate_size(p: RateParameter) -> Size
     ensures { PairsSize (rate_pairs p) 1 10 result }
 {
     cbor::head_laws();
-    let report = p.disposition;
-    if is_taken(report) {
-        let bytes = 1 + head_len(p.value);
+    if is_taken(p.disposition) {
         return Size {
             members: 1,
-            bytes: bytes,
+            bytes: 1 + head_len(p.value),
         };
     }
     no_size()
@@ -29,8 +27,7 @@ pub(crate) fn put_rate(dst: &mut [u8], p: RateParameter) -> usize
     requires { length (encode_pairs (rate_pairs p)) ≤ length dst.old }
     ensures { Wrote (encode_pairs (rate_pairs p)) dst.old result dst.new }
 {
-    let report = p.disposition;
-    if is_taken(report) {
+    if is_taken(p.disposition) {
         return put_labelled(dst, 7, 0, p.value);
     }
     0

@@ -1,29 +1,17 @@
 // The array that a list is, written. Its callers judged the list: no one else may write one.
-ghost use Rattle.byte_io.specs.Write.{Did};
-ghost use Rattle.cojp.specs.Lists.{list_plan};
+ghost use Rattle.std.specs.Prelude.{◌++◌, ◌+◌, ◌≤◌, length};
+ghost use Rattle.byte_io.specs.Write.{Wrote};
+ghost use Rattle.cbor.specs.Encode.{shortest};
+ghost use Rattle.cojp.specs.Lists.{bytes_in};
 
-use byte_io::WriteResult;
-use cbor::write::{head_len, write_head};
+use crate::octets::put::put_head;
 use cojp::ItemList;
-use refusal::Refusal;
 
-// Writes the array that a list is, the head of its count and its bytes: RANGE where it has more than 253, ROOM, or the length written.
-pub(crate) fn write_list(dst: &mut [u8], l: ItemList) -> WriteResult
-    ensures { Did (list_plan l) dst.old result dst.new }
+// The head of the list's count, and its bytes.
+pub(crate) fn put_array(dst: &mut [u8], l: ItemList) -> usize
+    requires { (l.len ≤ 253) × (length (shortest 4 l.count) + length (bytes_in l) ≤ length dst.old) }
+    ensures { Wrote (shortest 4 l.count ++ bytes_in l) dst.old result dst.new }
 {
-    cbor::head_laws();
-    let count = l.count;
-    let len = l.len;
-    if 253 < len {
-        return WriteResult::Refused(Refusal::Range);
-    }
-    let held = l.bytes;
-    let n = head_len(count);
-    let whole = n + len;
-    if dst.len() < whole {
-        return WriteResult::Refused(Refusal::Room);
-    }
-    write_head(dst, 4, count);
-    byte_io::copy_bytes(&held[..len], &mut dst[n..]);
-    WriteResult::Length(whole)
+    let n = put_head(dst, 4, l.count);
+    n + byte_io::copy_bytes(&l.bytes[..l.len], &mut dst[n..])
 }

@@ -7,7 +7,6 @@ ghost use Rattle.cojp_write.specs.octets.Plan.{string_in_range, list_bytes, list
 
 use crate::octets::list::write_list_parameter;
 use crate::octets::write_octets;
-use byte_io::WriteResult;
 use cbor::write::write_head;
 use cojp::{ListParameter, OctetsParameter};
 
@@ -16,11 +15,7 @@ pub(crate) fn put_head(dst: &mut [u8], major: u8, argument: u64) -> usize
     requires { (major ≤ 7) × (length (shortest major argument) ≤ length dst.old) }
     ensures { Wrote (shortest major argument) dst.old result dst.new }
 {
-    let w = write_head(dst, major, argument);
-    match w {
-        WriteResult::Refused(_) => 0,
-        WriteResult::Length(n) => n,
-    }
+    write_head(dst, major, argument).unwrap_or(0)
 }
 
 // A parameter that is a byte string, in range, where it is taken.
@@ -28,11 +23,7 @@ pub(crate) fn put_octets(dst: &mut [u8], label: u64, p: OctetsParameter) -> usiz
     requires { (string_in_range label p ≡ true) × (length (encode_pairs (octets_pairs label p)) ≤ length dst.old) }
     ensures { Wrote (encode_pairs (octets_pairs label p)) dst.old result dst.new }
 {
-    let w = write_octets(dst, label, p);
-    match w {
-        WriteResult::Refused(_) => 0,
-        WriteResult::Length(n) => n,
-    }
+    write_octets(dst, label, p).unwrap_or(0)
 }
 
 // A list that is not over its array, where it is taken.
@@ -40,9 +31,5 @@ pub(crate) fn put_list(dst: &mut [u8], label: u64, p: ListParameter) -> usize
     requires { (list_fits p ≡ true) × (length (list_bytes label p) ≤ length dst.old) }
     ensures { Wrote (list_bytes label p) dst.old result dst.new }
 {
-    let w = write_list_parameter(dst, label, p);
-    match w {
-        WriteResult::Refused(_) => 0,
-        WriteResult::Length(n) => n,
-    }
+    write_list_parameter(dst, label, p).unwrap_or(0)
 }

@@ -23,59 +23,36 @@ use protocol_version::Version;
 fn reports_in_range(version: Version, p: ListParameter) -> bool
     ensures { result ≡ by_version version (missing p.disposition) (list_in_range (at_least_one error_reports_in) p) }
 {
-    let report = p.disposition;
     match version {
-        Version::Draft => is_missing(report),
+        Version::Draft => is_missing(p.disposition),
         Version::Published => unsupported_in_range(p),
     }
 }
 
+#[tactic(auto, unfolding(cojp::specs::Writing::request_in_range))]
 pub(crate) fn request_in_range(version: Version, q: JoinRequest) -> bool
     ensures { result ≡ request_in_range version q }
 {
-    if 1 < q.role {
-        return false;
-    }
-    if !octets_in_range(q.network) {
-        return false;
-    }
-    reports_in_range(version, q.unsupported)
+    q.role <= 1 && octets_in_range(q.network) && reports_in_range(version, q.unsupported)
 }
 
 // The draft's keys have no additional information, and it has no blacklist and no join rate.
 fn draft_form(c: Configuration) -> bool
     ensures { result ≡ (keys_without_additional_info c.keys && missing c.blacklist.disposition && missing c.rate.disposition) }
 {
-    let blacklist = c.blacklist;
-    let listed = blacklist.disposition;
-    let rate = c.rate;
-    let rated = rate.disposition;
-    if !keys_plain(c.keys) {
-        return false;
-    }
-    if !is_missing(listed) {
-        return false;
-    }
-    is_missing(rated)
+    keys_plain(c.keys) && is_missing(c.blacklist.disposition) && is_missing(c.rate.disposition)
 }
 
 // The published form has no network identifier and no prefix in a configuration.
 fn published_form(c: Configuration) -> bool
     ensures { result ≡ (missing c.network.disposition && missing c.prefix.disposition && list_in_range strings_in c.blacklist) }
 {
-    let network = c.network;
-    let named = network.disposition;
-    let prefix = c.prefix;
-    let prefixed = prefix.disposition;
-    if !is_missing(named) {
-        return false;
-    }
-    if !is_missing(prefixed) {
-        return false;
-    }
-    blacklist_in_range(c.blacklist)
+    is_missing(c.network.disposition)
+        && is_missing(c.prefix.disposition)
+        && blacklist_in_range(c.blacklist)
 }
 
+#[tactic(auto, unfolding(cojp::specs::Writing::of_version))]
 fn of_form(version: Version, c: Configuration) -> bool
     ensures { result ≡ of_version version c }
 {
@@ -85,23 +62,14 @@ fn of_form(version: Version, c: Configuration) -> bool
     }
 }
 
+#[tactic(auto, unfolding(cojp::specs::Writing::configuration_in_range))]
 pub fn configuration_in_range(version: Version, c: Configuration) -> bool
     ensures { result ≡ configuration_in_range version c }
 {
-    if !keys_in_range(c.keys) {
-        return false;
-    }
-    if !address_in_range(c.address) {
-        return false;
-    }
-    if !jrc_in_range(c.jrc) {
-        return false;
-    }
-    if !octets_in_range(c.network) {
-        return false;
-    }
-    if !octets_in_range(c.prefix) {
-        return false;
-    }
-    of_form(version, c)
+    keys_in_range(c.keys)
+        && address_in_range(c.address)
+        && jrc_in_range(c.jrc)
+        && octets_in_range(c.network)
+        && octets_in_range(c.prefix)
+        && of_form(version, c)
 }

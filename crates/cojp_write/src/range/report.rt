@@ -2,15 +2,11 @@
 ghost use Rattle.std.specs.Prelude.{◌≡◌};
 ghost use Rattle.cojp.specs.Writing.{missing};
 
-use cojp::Disposition;
+use cojp::{Disposition, is_taken};
 
 // A parameter of the other form is never taken.
 pub(crate) fn is_missing(report: Disposition) -> bool
     ensures { result ≡ missing report }
 {
-    match report {
-        Disposition::Absent => true,
-        Disposition::Taken => false,
-        Disposition::Discarded => true,
-    }
+    !is_taken(report)
 }

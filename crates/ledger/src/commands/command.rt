@@ -1,28 +1,24 @@
-// What a line asks for: its command, with its numbers, or what is wrong with it.
+// What a line asks for: its command, with its numbers and bytes, or what is wrong with it.
 use crate::commands::line::Line;
+use crate::memory;
 use tool_numerals::decimal::Decimal;
-use tool_numerals::hex::{Hex, Payload};
+use tool_text::first;
 use tool_text::line_error::LineError;
 
-// How many bytes of memory the tool has.
-pub const MEMORY: usize = 40000;
-
 #[derive(Clone, Copy)]
-pub enum Command {
-    // an empty line or a comment
-    Nothing,
-    Wrong(LineError),
+pub enum Command<'a> {
     // first address, size
     Open(usize, usize),
-    // the board stands in its buffer
-    Grant,
-    Back,
+    // a board
+    Grant([u8; 8]),
+    Back([u8; 8]),
     Free,
     // how many bytes are lent
     Lend(usize),
     // place, how many bytes
     Read(usize, usize),
-    Write(usize, usize),
+    // place, the bytes
+    Write(usize, &'a [u8]),
     Clear,
     // the kept count
     Count(usize),
@@ -31,196 +27,113 @@ pub enum Command {
     Show,
     // every address that is held
     List,
-    // the board of the address in the buffer's first two bytes
-    Who,
+    // the board of an address
+    Who(u16),
     // the address of the board, which is not granted one
-    Holds,
+    Holds([u8; 8]),
 }
 
-// What a line asks for; nothing, if it is empty or a comment.
-pub fn command_of(line: Line) -> Command {
-    if line.is_silent() {
-        return Command::Nothing;
-    }
+// What a line asks for, the bytes of its board and of HEX beside it; or the first thing that is wrong with it.
+pub fn command_of<'a>(line: Line, board: &[u8], hex: &'a [u8]) -> Result<Command<'a>, LineError> {
     let command = line.command;
-    if command.is(b"grant") {
-        return board_command(line, Command::Grant);
+    let letters = command.letters;
+    match first(&letters, command.len) {
+        b"grant" => Ok(Command::Grant(bytes_after(line, board)?)),
+        b"back" => Ok(Command::Back(bytes_after(line, board)?)),
+        b"holds" => Ok(Command::Holds(bytes_after(line, board)?)),
+        b"who" => Ok(Command::Who(u16::from_be_bytes(bytes_after(line, board)?))),
+        b"free" => alone(line, Command::Free),
+        b"clear" => alone(line, Command::Clear),
+        b"show" => alone(line, Command::Show),
+        b"list" => alone(line, Command::List),
+        b"lend" => Ok(Command::Lend(place_of(number_after(line)?)?)),
+        b"count" => Ok(Command::Count(number_after(line)?)),
+        b"open" => {
+            let (first, size) = numbers_after(line)?;
+            Ok(Command::Open(first, size))
+        }
+        b"read" => {
+            let (place, count) = numbers_after(line)?;
+            within_memory(place, count)?;
+            Ok(Command::Read(place, count))
+        }
+        b"write" => write_command(line, hex),
+        b"marks" => marks_command(line),
+        _ => Err(LineError::Command),
     }
-    if command.is(b"back") {
-        return board_command(line, Command::Back);
-    }
-    if command.is(b"free") {
-        return bare_command(line, Command::Free);
-    }
-    if command.is(b"clear") {
-        return bare_command(line, Command::Clear);
-    }
-    if command.is(b"show") {
-        return bare_command(line, Command::Show);
-    }
-    question(line)
-}
-
-// The commands that ask who holds what.
-fn question(line: Line) -> Command {
-    let command = line.command;
-    if command.is(b"list") {
-        return bare_command(line, Command::List);
-    }
-    if command.is(b"who") {
-        return bytes_command(line, 2, Command::Who);
-    }
-    if command.is(b"holds") {
-        return board_command(line, Command::Holds);
-    }
-    number_command(line)
-}
-
-// The commands with numbers.
-fn number_command(line: Line) -> Command {
-    let command = line.command;
-    if command.is(b"open") {
-        return open_command(line);
-    }
-    if command.is(b"lend") {
-        return lend_command(line);
-    }
-    if command.is(b"read") {
-        return read_command(line);
-    }
-    if command.is(b"write") {
-        return write_command(line);
-    }
-    if command.is(b"count") {
-        return count_command(line);
-    }
-    if command.is(b"marks") {
-        return marks_command(line);
-    }
-    Command::Wrong(LineError::Command)
 }
 
 // A command with no words after it.
-fn bare_command(line: Line, order: Command) -> Command {
-    if line.words != 1 {
-        return Command::Wrong(LineError::Command);
-    }
-    order
+fn alone<'a>(line: Line, command: Command<'a>) -> Result<Command<'a>, LineError> {
+    with_words(line, 1)?;
+    Ok(command)
 }
 
-// A command with a board of eight bytes after it.
-fn board_command(line: Line, order: Command) -> Command {
-    bytes_command(line, 8, order)
+// That the line has so many words.
+fn with_words(line: Line, words: usize) -> Result<(), LineError> {
+    if line.words != words {
+        return Err(LineError::Command);
+    }
+    Ok(())
 }
 
-// A command with so many bytes after it.
-fn bytes_command(line: Line, count: usize, order: Command) -> Command {
-    if line.words != 2 {
-        return Command::Wrong(LineError::Command);
+// The `N` bytes that stand after the command.
+fn bytes_after<const N: usize>(line: Line, board: &[u8]) -> Result<[u8; N], LineError> {
+    with_words(line, 2)?;
+    if line.board.payload() != Some(N) {
+        return Err(LineError::Hex);
     }
-    if has_bytes(line.board, count) {
-        return order;
-    }
-    Command::Wrong(LineError::Hex)
+    let bytes = board.first_chunk::<N>().ok_or(LineError::Hex)?;
+    Ok(*bytes)
 }
 
-fn has_bytes(hex: Hex, count: usize) -> bool {
-    match hex.payload() {
-        Payload::Bytes(len) => len == count,
-        Payload::Fault => false,
-    }
+// The word as a number.
+fn number(word: Decimal) -> Result<usize, LineError> {
+    let number = word.value().ok_or(LineError::Number)?;
+    Ok(number as usize)
 }
 
-fn open_command(line: Line) -> Command {
-    if line.words != 3 {
-        return Command::Wrong(LineError::Command);
-    }
-    let first = line.first;
-    let second = line.second;
-    let Decimal::Number(first) = first else {
-        return Command::Wrong(LineError::Number);
-    };
-    let Decimal::Number(size) = second else {
-        return Command::Wrong(LineError::Number);
-    };
-    Command::Open(first as usize, size as usize)
+// The number that stands after the command.
+fn number_after(line: Line) -> Result<usize, LineError> {
+    with_words(line, 2)?;
+    number(line.first)
 }
 
-fn lend_command(line: Line) -> Command {
-    if line.words != 2 {
-        return Command::Wrong(LineError::Command);
-    }
-    let first = line.first;
-    let Decimal::Number(count) = first else {
-        return Command::Wrong(LineError::Number);
-    };
-    if MEMORY < count as usize {
-        return Command::Wrong(LineError::Number);
-    }
-    Command::Lend(count as usize)
+// The two numbers that stand after the command.
+fn numbers_after(line: Line) -> Result<(usize, usize), LineError> {
+    with_words(line, 3)?;
+    Ok((number(line.first)?, number(line.second)?))
 }
 
-fn count_command(line: Line) -> Command {
-    if line.words != 2 {
-        return Command::Wrong(LineError::Command);
-    }
-    let first = line.first;
-    let Decimal::Number(count) = first else {
-        return Command::Wrong(LineError::Number);
-    };
-    Command::Count(count as usize)
-}
-
-fn marks_command(line: Line) -> Command {
+fn marks_command<'a>(line: Line) -> Result<Command<'a>, LineError> {
     let groups = line.groups.ended();
-    if groups.wrong {
-        return Command::Wrong(LineError::Number);
-    }
-    Command::Marks(groups.marks)
+    let marks = groups.marks.ok_or(LineError::Number)?;
+    Ok(Command::Marks(marks))
 }
 
-fn read_command(line: Line) -> Command {
-    if line.words != 3 {
-        return Command::Wrong(LineError::Command);
-    }
-    let first = line.first;
-    let second = line.second;
-    let Decimal::Number(place) = first else {
-        return Command::Wrong(LineError::Number);
-    };
-    let Decimal::Number(count) = second else {
-        return Command::Wrong(LineError::Number);
-    };
-    if reaches_past(place as usize, count as usize) {
-        return Command::Wrong(LineError::Number);
-    }
-    Command::Read(place as usize, count as usize)
-}
-
-fn write_command(line: Line) -> Command {
+fn write_command<'a>(line: Line, hex: &'a [u8]) -> Result<Command<'a>, LineError> {
     if line.words < 2 {
-        return Command::Wrong(LineError::Command);
+        return Err(LineError::Command);
     }
-    let first = line.first;
-    let Decimal::Number(place) = first else {
-        return Command::Wrong(LineError::Number);
-    };
-    if MEMORY < place as usize {
-        return Command::Wrong(LineError::Number);
-    }
-    let Payload::Bytes(len) = line.hex.payload() else {
-        return Command::Wrong(LineError::Hex);
-    };
-    if reaches_past(place as usize, len) {
-        return Command::Wrong(LineError::Number);
-    }
-    Command::Write(place as usize, len)
+    let place = place_of(number(line.first)?)?;
+    let len = line.hex.payload().ok_or(LineError::Hex)?;
+    within_memory(place, len)?;
+    Ok(Command::Write(place, first(hex, len)))
 }
 
-// Whether so many bytes from a place on reach past the memory's end.
-fn reaches_past(place: usize, count: usize) -> bool {
-    if MEMORY < place {
-        return true;
+// A place of the memory, or its end.
+fn place_of(number: usize) -> Result<usize, LineError> {
+    if memory::SIZE < number {
+        return Err(LineError::Number);
     }
-    MEMORY - place < count
+    Ok(number)
+}
+
+// That so many bytes from a place on do not reach past the memory's end.
+fn within_memory(place: usize, count: usize) -> Result<(), LineError> {
+    let left = memory::SIZE.checked_sub(place).ok_or(LineError::Number)?;
+    if left < count {
+        return Err(LineError::Number);
+    }
+    Ok(())
 }

@@ -3,10 +3,8 @@ use tool_numerals::decimal::Decimal;
 
 #[derive(Clone, Copy)]
 pub struct Groups {
-    // a bit for each group that was named
-    pub marks: u64,
-    // whether a word is no such number
-    pub wrong: bool,
+    // a bit for each group that was named; none where a word is no such number
+    pub marks: Option<u64>,
     // the last word, which may go on
     number: Decimal,
 }
@@ -14,45 +12,35 @@ pub struct Groups {
 impl Groups {
     pub fn new() -> Groups {
         Groups {
-            marks: 0,
-            wrong: false,
+            marks: Some(0),
             number: Decimal::Empty,
         }
     }
 
     // The groups with a part of the last word.
-    pub fn more(self, part: &[u8]) -> Groups {
-        let number = self.number;
-        Groups {
-            marks: self.marks,
-            wrong: self.wrong,
-            number: number.more(part),
-        }
+    pub fn more(mut self, part: &[u8]) -> Groups {
+        self.number = self.number.more(part);
+        self
     }
 
     // The groups with the last word ended.
     pub fn ended(self) -> Groups {
-        let number = self.number;
-        match number {
-            Decimal::Empty => self,
-            Decimal::Number(group) => self.with(group),
-            Decimal::Fault => self.with(64),
-        }
-    }
-
-    // The groups and one more; one past the last is no group.
-    fn with(self, group: u64) -> Groups {
-        if 63 < group {
-            return Groups {
-                marks: self.marks,
-                wrong: true,
-                number: Decimal::Empty,
-            };
-        }
+        let bit = match self.number {
+            Decimal::Empty => return self,
+            Decimal::Number(group) => bit_of(group),
+            Decimal::Fault => None,
+        };
         Groups {
-            marks: self.marks | (1u64 << group),
-            wrong: self.wrong,
+            marks: self.marks.zip(bit).map(|(marks, bit)| marks | bit),
             number: Decimal::Empty,
         }
     }
+}
+
+// The bit of a group; none where the number is past the last.
+fn bit_of(group: u64) -> Option<u64> {
+    if 63 < group {
+        return None;
+    }
+    Some(1u64 << group)
 }

@@ -2,7 +2,7 @@
 use crate::commands::groups::Groups;
 use tool_numerals::decimal::Decimal;
 use tool_numerals::hex::Hex;
-use tool_text::find::find;
+use tool_text::split_word;
 use tool_text::word::Word;
 
 #[derive(Clone, Copy)]
@@ -39,11 +39,11 @@ impl Line {
     // The line with its next part; the bytes of a board and of HEX go to their buffers.
     pub fn more(self, part: &[u8], board: &mut [u8], hex: &mut [u8]) -> Line {
         let mut line = self;
-        let mut at = 0;
-        while at < part.len() {
-            let end = find(part, at, part.len(), b' ');
-            line = line.next(&part[at..end], end < part.len(), board, hex);
-            at = end + 1;
+        let mut left = part;
+        while !left.is_empty() {
+            let (word, after) = split_word(left);
+            line = line.next(word, after.is_some(), board, hex);
+            left = after.unwrap_or(&[]);
         }
         line
     }
@@ -51,92 +51,42 @@ impl Line {
     // The line with what stands before a space, if it is one that comes then: a word, the rest of one, or nothing.
     fn next(mut self, part: &[u8], space: bool, board: &mut [u8], hex: &mut [u8]) -> Line {
         if !self.inside {
-            if part.len() == 0 {
+            if part.is_empty() {
                 return self;
             }
             if self.words < 4 {
                 self.words += 1;
             }
-            let groups = self.groups.ended();
-            self.groups = groups;
+            self.groups = self.groups.ended();
         }
         self.inside = !space;
-        self.with_group(part).word(part, board, hex)
+        self.with_word(part, board, hex)
     }
 
-    // The line with a part of its last word.
-    fn word(self, part: &[u8], board: &mut [u8], hex: &mut [u8]) -> Line {
-        let words = self.words;
-        match words {
-            0 => self,
-            1 => self.with_command(part),
-            2 => self.with_first(part, board),
-            3 => self.with_second(part, hex),
-            _ => self.with_hex(part, hex),
+    // The line with a part of its last word. The command names no group.
+    fn with_word(mut self, part: &[u8], board: &mut [u8], hex: &mut [u8]) -> Line {
+        match self.words {
+            0 => return self,
+            1 => {
+                self.command = self.command.more(part);
+                return self;
+            }
+            2 => {
+                self.first = self.first.more(part);
+                self.board = self.board.more(part, board);
+            }
+            3 => {
+                self.second = self.second.more(part);
+                self.hex = self.hex.more(part, hex);
+            }
+            _ => self.hex = self.hex.more(part, hex),
         }
-    }
-
-    // The command names no group.
-    fn with_group(mut self, part: &[u8]) -> Line {
-        if self.words < 2 {
-            return self;
-        }
-        let groups = self.groups.more(part);
-        self.groups = groups;
-        self
-    }
-
-    fn with_command(mut self, part: &[u8]) -> Line {
-        let command = self.command.more(part);
-        self.command = command;
-        self
-    }
-
-    fn with_first(self, part: &[u8], board: &mut [u8]) -> Line {
-        let first = self.first;
-        let command = self.command;
-        let second = self.second;
-        let hex = self.hex;
-        let groups = self.groups;
-        Line {
-            words: self.words,
-            inside: self.inside,
-            command,
-            first: first.more(part),
-            board: self.board.more(part, board),
-            second,
-            hex,
-            groups,
-        }
-    }
-
-    fn with_second(self, part: &[u8], hex: &mut [u8]) -> Line {
-        let first = self.first;
-        let command = self.command;
-        let second = self.second;
-        let board = self.board;
-        let groups = self.groups;
-        Line {
-            words: self.words,
-            inside: self.inside,
-            command,
-            first,
-            board,
-            second: second.more(part),
-            hex: self.hex.more(part, hex),
-            groups,
-        }
-    }
-
-    fn with_hex(mut self, part: &[u8], hex: &mut [u8]) -> Line {
-        let read = self.hex.more(part, hex);
-        self.hex = read;
+        self.groups = self.groups.more(part);
         self
     }
 
     // Whether it holds no command: it is empty, or a comment.
     pub fn is_silent(self) -> bool {
-        let command = self.command;
-        command.len == 0 || command.letters[0] == b'#'
+        self.command.is_silent()
     }
 }

@@ -7,6 +7,7 @@ use Rattle.std.specs.Int.Bits.{bit_xor, bit_or, xor_self, or_zero_r, or_add_and,
 use Rattle.std.proofs.lemmas.Nat.{and_le_l, and_le_r}
 use Rattle.lemmas.specs.logic.Tests.{both_left, both_right}
 use Rattle.lemmas.specs.lists.Same.{same}
+use lib.Pointwise.{pointwise}
 
 -- d has the bits in which the first i of n places were found to differ: none, and the rest is the same, where the lists are
 pub record Comparing (n : ℕ) (s u : List ℕ) (d i : ℕ) : Type 0 where
@@ -38,6 +39,11 @@ compare-step {n} {s} {u} {d} {i} inv h k l =
           (rw (drop-cons s i 0 h, drop-cons u i 0 k) at inv.so_far);
     }
 
+-- the same, of the two bytes x and y at i
+pub compare-more : {n : ℕ} {s u : List ℕ} {d i j x y : ℕ} → Comparing n s u d i → i < length s → i < length u → i < n
+    → x ≡ get_or s i 0 → y ≡ get_or u i 0 → j ≡ i + 1 → Comparing n s u (bit_or d (bit_xor x y)) j
+compare-more inv h k l ex ey ej = rw (ex, ey, ej) (compare-step inv h k l)
+
 pub compare-end : {n : ℕ} {s u : List ℕ} {d i : ℕ} → Comparing n s u d i → length s ≤ i → length u ≤ i → eqb d 0 ≡ same s u
 unfolding same
 compare-end {n} {s} {u} {d} {i} inv h k = rw (drop_of_length-le s h, drop_of_length-le u k, and-true (eqb d 0)) at inv.so_far
@@ -56,3 +62,11 @@ pub same_refl : (l : List ℕ) → same l l ≡ true
 unfolding same
 same_refl [] = refl
 same_refl (x ∷ l) = rw (eq-eqb x x refl, same_refl l)
+
+-- the library's test of two slices or arrays
+pub pointwise-same : (s u : List ℕ) → pointwise eqb s u ≡ same s u
+unfolding same
+pointwise-same [] [] = refl
+pointwise-same [] (y ∷ u) = refl
+pointwise-same (x ∷ s) [] = refl
+pointwise-same (x ∷ s) (y ∷ u) = rw (pointwise-same s u)

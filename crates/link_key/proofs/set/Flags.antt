@@ -9,9 +9,9 @@ use native.Mathlib.Numerals.{add-one}
 use borrow.Author.Tests.{eqb-true, eqb-false, eq-eqb, ne_eqb, ltb-true, ltb-false, leb-true, not-true}
 use lib.Bits.{bit_or, or_shr, or_mod, or_zero_r, shifted_even}
 use lib.Dec.{leb, ltb, eqb}
-use lib.ListN.{length, take, drop, get_or, set, replicate, length-set, length-take}
+use lib.ListN.{length, take, drop, get_or, set, replicate, length-set}
 use lib.Pow.{pow-lt, pow-add, pow_pos, shl-shr, shl_exact}
-use lib.Seq.{get_or-set_same, get_or-set_other, get_or-take, take_all, take-suc, split_at}
+use lib.Seq.{get_or-set_same, get_or-set_other, take-suc, split_at}
 use Rattle.lemmas.specs.logic.Tests.{both_left, both_right}
 use Rattle.link_key.specs.usage.Usage.{listed}
 use Rattle.link_key.specs.Key.{valid_key}
@@ -188,19 +188,12 @@ pub record Judging (ks : List Key) (i : ℕ) (seen : List ℕ) : Type 0 where
   pub exact : Exactly seen (take i ks)
   pub good : each_once (take i ks) ≡ true
 
-module _ (xs : List Key) (n i : ℕ) (seen : List ℕ) (w : Judging (take n xs) i seen) (few : n ≤ length xs) where
-  pub judged-all : n ≤ i → each_once (take n xs) ≡ true
-  judged-all h = rw (take_all i (take n xs) (omega (arith, length-take n xs))) at w.good
+module _ (ks : List Key) (i : ℕ) (seen : List ℕ) (w : Judging ks i seen) where
+  module _ (d : Key) (h : i < length ks) (joined : Bool) (after : List ℕ) (m : OneMore (take i ks) (get_or ks i d) joined after) where
+    pub judged-bad : joined ≡ false → each_once ks ≡ false
+    judged-bad e = rw (split_at ks i d h) (m.bad e (drop (suc i) ks))
 
-  module _ (d : Key) (h : i < n) (joined : Bool) (after : List ℕ) (m : OneMore (take i (take n xs)) (get_or xs i d) joined after) where
-    here : i < length (take n xs)
-    here = omega (arith, length-take n xs)
-
-    pub judged-bad : joined ≡ false → each_once (take n xs) ≡ false
-    judged-bad e = rw (split_at (take n xs) i d here, get_or-take n xs i d h) (m.bad e (drop (suc i) (take n xs)))
-
-    pub judged-more : joined ≡ true → Judging (take n xs) (i + 1) after
+    pub judged-more : joined ≡ true → Judging ks (i + 1) after
     judged-more e =
-        let more : take (i + 1) (take n xs) ≡ take i (take n xs) ++ (get_or xs i d ∷ []) =
-        rw (add-one i, take-suc (take n xs) i d here, get_or-take n xs i d h) in
+        let more : take (i + 1) ks ≡ take i ks ++ (get_or ks i d ∷ []) = rw (add-one i, take-suc ks i d h) in
         record { exact = rw more (m.next e); good = rw more (m.good e w.good) }

@@ -1,5 +1,5 @@
 -- What the layers above may rely on of keys and key sets, whatever their definitions are.
-use Rattle.std.specs.Prelude.{ℕ, ◌≤◌, ◌≡◌, true, false, not, cond, ◌&&◌, ◌||◌, length}
+use Rattle.std.specs.Prelude.{ℕ, ◌≤◌, ◌≡◌, true, false, not, cond, ◌&&◌, ◌||◌, length, Ok}
 use mathlib.Core.List.{List, [], ◌∷◌, ◌++◌, Memᴰ}
 use Rattle.std.proofs.Math.Option.{none, some}
 use Rattle.link_key.specs.usage.Usage.{listed, known_type, usage_of, entry_at, entry_says}
@@ -10,7 +10,6 @@ use Rattle.link_key.specs.set.KeySet.{find_key}
 use Rattle.link_key.specs.declared.Key.{Key}
 use Rattle.link_key.specs.declared.additional_info.AdditionalInfo.TheVariants.{Absent}
 use Rattle.link_key.specs.declared.set.key_set.KeySet.{KeySet}
-use Rattle.link_key.specs.declared.usage.Coverage.TheVariants.{Covered}
 
 pub record KeyLaws : Type 0 where
   -- the usage list and what a key covers; 13 is RANGE
@@ -18,7 +17,7 @@ pub record KeyLaws : Type 0 where
   pub coverage-says :
       (k : Key) (type : ℕ)
       → coverage_says (coverage_of k type) ≡ cond (known_type type && listed k.usage) (0, some (covers k type)) (13, none)
-  pub coverage-covered : (k : Key) (type : ℕ) → type ≤ 1 → k.usage ≤ 14 → coverage_of k type ≡ Covered (covers k type)
+  pub coverage-covered : (k : Key) (type : ℕ) → type ≤ 1 → k.usage ≤ 14 → coverage_of k type ≡ Ok (covers k type)
   pub covers-known-type : (k : Key) (type : ℕ) → covers k type ≡ true → type ≤ 1
   pub covers-listed : (k : Key) (type : ℕ) → covers k type ≡ true → k.usage ≤ 14
   -- equal keys and sets

@@ -1,17 +1,16 @@
 -- Questions about a list, asked of one element after the other.
-use Rattle.std.specs.Prelude.{Bool, true, false, cond, ◌&&◌, ◌||◌, List, [], ◌∷◌}
+use Rattle.std.specs.Prelude.{Bool, cond, List, [], ◌∷◌}
+use Rattle.std.specs.List.{list_all, list_any}
 use Rattle.std.proofs.Math.Option.{Option, none, some}
 
 module _ {A : Type 0} where
   -- some element passes the test
   abbrev pub any_of : (A → Bool) → List A → Bool
-  any_of test [] = false
-  any_of test (x ∷ xs) = (test x || any_of test xs)
+  any_of = list_any
 
   -- every element passes the test
   abbrev pub all_of : (A → Bool) → List A → Bool
-  all_of test [] = true
-  all_of test (x ∷ xs) = (test x && all_of test xs)
+  all_of = list_all
 
   -- the first element that passes the test
   abbrev pub first_of : (A → Bool) → List A → Option A

@@ -1,13 +1,12 @@
 -- Document 01's usage list: the family and the MIC of each usage number, and what a family covers.
-use Rattle.std.specs.Prelude.{ℕ, ◌%◌, Bool, cond, leb, eqb}
+use Rattle.refusal.specs.declared.Refusal.{Refusal}
+use Rattle.std.specs.Prelude.{ℕ, ◌%◌, Bool, cond, leb, eqb, Result, Ok, Err}
 use Rattle.std.proofs.Math.Option.{Option, none, some}
 use Rattle.refusal.specs.Refusal.{number_of}
 use Rattle.refusal.specs.declared.Refusal.TheVariants.{Range}
 use Rattle.link_key.specs.declared.usage.Family.{Family}
 use Rattle.link_key.specs.declared.usage.Family.TheVariants.{K1K2Encrypted, K1K2, K1, K2, K2Encrypted}
 use Rattle.link_key.specs.declared.usage.Usage.{Usage}
-use Rattle.link_key.specs.declared.usage.Entry.{Entry}
-use Rattle.link_key.specs.declared.usage.Entry.TheVariants as entry
 
 -- 0 to 2 K1K2 with encryption, 3 to 5 K1K2 without, 6 to 8 K1, 9 to 11 K2 without, 12 to 14 K2 with
 abbrev pub family_of : ℕ → Family
@@ -25,13 +24,13 @@ abbrev pub listed : ℕ → Bool
 listed usage = leb usage 14
 
 -- what the list answers for a number
-unfoldable pub entry_at : ℕ → Entry
-entry_at usage = cond (listed usage) (entry.Listed (usage_of usage)) (entry.Refused Range)
+unfoldable pub entry_at : ℕ → Result Usage Refusal
+entry_at usage = cond (listed usage) (Ok (usage_of usage)) (Err Range)
 
 -- the answer in document 01's terms: the refusal's number, 0 where there is none, and the entry, none where it is refused
-abbrev pub entry_says : Entry → ℕ × Option Usage
-entry_says (entry.Refused why) = (number_of why, none)
-entry_says (entry.Listed usage) = (0, some usage)
+abbrev pub entry_says : Result Usage Refusal → ℕ × Option Usage
+entry_says (Err why) = (number_of why, none)
+entry_says (Ok usage) = (0, some usage)
 
 -- frame types are 0 beacon and 1 data; an acknowledgement counts as data
 abbrev pub known_type : ℕ → Bool

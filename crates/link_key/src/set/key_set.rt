@@ -1,14 +1,13 @@
 // A set of link-layer keys: the first `count` keys of eight places, in the order of the payload that held them.
-ghost use Rattle.std.specs.Prelude.{◌&&◌, ◌||◌, ◌≡◌, ℕ, ◌≤◌, eqb, map, length, take, drop};
-ghost use Rattle.std.proofs.Math.Option.{none};
-ghost use Rattle.link_key.specs.set.Lists.{any_of};
-ghost use Rattle.link_key.specs.set.KeySet.{keys_of, identifier_of, no_keys, has, each_once, valid_set};
+ghost use Rattle.std.specs.Prelude.{◌&&◌, ◌||◌, ◌≡◌, ◌≤◌, length};
+ghost use Rattle.link_key.specs.set.KeySet.{keys_of, no_keys, has, each_once, valid_set};
 ghost use Rattle.link_key.specs.set.KeySet.{no_additional_infos, additional_info_allowed, same_keys, shares, find_key};
 ghost use Rattle.link_key.specs.Key.{has_no_additional_info, found_key};
 
 use crate::set::seen::{join, none_seen};
-use crate::{FoundKey, Key, no_key};
+use crate::{Key, no_key};
 
+// Kept: no heap; and a count over 8 is a value: `len`'s clause `few`, `valid_set` and the edit set_of_9_accepted speak of it.
 #[derive(Clone, Copy)]
 pub struct KeySet {
     // How many keys the set has; 0 is no set.
@@ -28,30 +27,11 @@ pub fn no_keys() -> KeySet
     }
 }
 
-// What a search gives that finds nothing.
-fn not_found() -> FoundKey
-    ensures { result ≡ found_key none }
+// Whether one of the keys has the identifier.
+fn any_named(keys: &[Key], identifier: u8) -> bool
+    ensures { result ≡ has identifier keys.now }
 {
-    let none = no_key();
-    FoundKey {
-        found: false,
-        key: none,
-    }
-}
-
-// Whether one of the identifiers from one place on, up to another, is this one.
-fn among(ids: [u8; 8], from: usize, to: usize, identifier: u8) -> bool
-    requires { to ≤ 8 }
-    ensures { result ≡ any_of (λ (x : ℕ). eqb x identifier) (drop from (take to ids)) }
-{
-    let mut i = from;
-    while i < to {
-        if ids[i] == identifier {
-            return true;
-        }
-        i += 1;
-    }
-    false
+    keys.iter().any(|key| key.identifier == identifier)
 }
 
 // Whether a key is without additional information, or may have it.
@@ -67,25 +47,15 @@ impl KeySet {
         ensures exact { result ≡ length (keys_of self) }
         ensures few { result ≤ 8 }
     {
-        if self.count <= 8 {
-            return self.count;
-        }
-        8
+        self.count.min(8)
     }
 
-    // The identifiers at the eight places.
-    fn identifiers(self) -> [u8; 8]
-        ensures { result ≡ map identifier_of self.keys }
+    // The keys of the set.
+    pub fn as_slice(&self) -> &[Key]
+        ensures exact { result.now ≡ keys_of self.now }
+        ensures few { length result.now ≤ 8 }
     {
-        let keys = self.keys;
-        let mut ids = [0u8; 8];
-        let mut i: usize = 0;
-        while i < 8 {
-            let key = keys[i];
-            ids[i] = key.identifier;
-            i += 1;
-        }
-        ids
+        &self.keys[..self.len()]
     }
 
     // Whether the set is within document 01's limits (KEYS): 1 to 8 keys, each in its limits, no identifier twice.
@@ -109,18 +79,12 @@ impl KeySet {
     fn keys_valid(self, allowed: bool) -> bool
         ensures { result ≡ (each_once (keys_of self) && additional_info_allowed allowed (keys_of self)) }
     {
-        let n = self.len();
-        let keys = self.keys;
         let mut seen = none_seen();
-        let mut i: usize = 0;
-        while i < n {
-            let key = keys[i];
-            if !additional_info_allowed(allowed, key) {
+        for key in self.as_slice() {
+            if !additional_info_allowed(allowed, *key) {
                 return false;
             }
-            if join(&mut seen, key) {
-                i += 1;
-            } else {
+            if !join(&mut seen, *key) {
                 return false;
             }
         }
@@ -131,81 +95,45 @@ impl KeySet {
     pub fn has_no_additional_info(self) -> bool
         ensures { result ≡ no_additional_infos (keys_of self) }
     {
-        let n = self.len();
-        let keys = self.keys;
-        let mut i: usize = 0;
-        while i < n {
-            let key = keys[i];
-            if !key.has_no_additional_info() {
-                return false;
-            }
-            i += 1;
-        }
-        true
+        self.as_slice()
+            .iter()
+            .all(|key| key.has_no_additional_info())
     }
 
     // Whether a key of the set has the identifier.
     pub fn has(self, identifier: u8) -> bool
         ensures { result ≡ has identifier (keys_of self) }
     {
-        let n = self.len();
-        let ids = self.identifiers();
-        among(ids, 0, n, identifier)
+        any_named(self.as_slice(), identifier)
     }
 
     // Whether two sets have the same keys in the same order.
+    #[tactic(auto, using(crate::proofs::Equal::lists))]
     pub fn same_keys(self, other: KeySet) -> bool
         ensures { result ≡ same_keys (keys_of self) (keys_of other) }
     {
-        let n = self.len();
-        if n != other.len() {
-            return false;
-        }
-        let mine = self.keys;
-        let theirs = other.keys;
-        let mut i: usize = 0;
-        while i < n {
-            let key = mine[i];
-            if !key.same_key(theirs[i]) {
-                return false;
-            }
-            i += 1;
-        }
-        true
+        self.as_slice() == other.as_slice()
     }
 
     // Whether some identifier is in both sets.
     pub fn shares(self, other: KeySet) -> bool
         ensures { result ≡ shares (keys_of self) (keys_of other) }
     {
-        let n = self.len();
-        let m = other.len();
-        let mine = self.identifiers();
-        let theirs = other.identifiers();
-        let mut i: usize = 0;
-        while i < n {
-            if among(theirs, 0, m, mine[i]) {
-                return true;
-            }
-            i += 1;
-        }
-        false
+        let theirs = other.as_slice();
+        self.as_slice()
+            .iter()
+            .any(|key| any_named(theirs, key.identifier))
     }
 
     // The key with the identifier: the first one, where the set is outside its limits.
-    pub fn find_key(self, identifier: u8) -> FoundKey
+    pub fn find_key(self, identifier: u8) -> Option<Key>
         ensures { result ≡ found_key (find_key identifier (keys_of self)) }
     {
-        let n = self.len();
-        let keys = self.keys;
-        let mut i: usize = 0;
-        while i < n {
-            let key = keys[i];
+        for key in self.as_slice() {
             if key.identifier == identifier {
-                return FoundKey { found: true, key };
+                return Some(*key);
             }
-            i += 1;
         }
-        not_found()
+        None
     }
 }

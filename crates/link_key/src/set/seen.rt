@@ -5,6 +5,8 @@ ghost use Rattle.link_key.specs.set.Seen.{joins, noted, Exactly, WithOneMore, Se
 use crate::Key;
 
 // The flags at the start of a set: none is set.
+// Kept: the flags are eight words, as the theorem SeenLaws and the edit flag_of_other_identifier_set speak of them; [bool; 256] would be
+// 256 bytes to clear for each set.
 pub fn none_seen() -> [u32; 8]
     ensures clear { result ≡ replicate 8 0 }
     ensures none { Exactly result [] }

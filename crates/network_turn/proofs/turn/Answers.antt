@@ -2,12 +2,12 @@
 use Rattle.network_turn.proofs.Answers.{sender-finds, sender-refuses}
 use Rattle.network_turn.proofs.turn.Goals as goal
 
-pub returns-in-Refused : goal.returns-in-Refused
-returns-in-Refused c =
+pub returns-in-Err : goal.returns-in-Err
+returns-in-Err c =
     sender-refuses c.args.sender c.args.receiver c.args.frame_type c.sending_key-sent.result c.sending_key-sent.ensures _
-    c.in-Refused.is
+    c.in-Err.is
 
-pub returns-in-Accepted : goal.returns-in-Accepted
-returns-in-Accepted c =
+pub returns-in-Ok : goal.returns-in-Ok
+returns-in-Ok c =
     sender-finds c.args.sender c.args.receiver c.args.frame_type c.sending_key-sent.result c.sending_key-sent.ensures
-    c.received.result c.in-Accepted.is c.received.ensures
+    c.received.result c.in-Ok.is c.received.ensures

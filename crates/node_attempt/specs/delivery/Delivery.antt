@@ -1,8 +1,7 @@
 -- What a configuration comes in: when one may be handed over, and what it does to the join attempt.
-use Rattle.std.specs.Prelude.{ℕ, Bool, true, false, cond, leb}
+use Rattle.std.specs.Prelude.{ℕ, Bool, true, false, cond, leb, Ok, Err}
 use Rattle.refusal.specs.declared.Refusal.TheVariants as refusal
-use Rattle.refusal.specs.declared.Verdict.{Verdict}
-use Rattle.refusal.specs.declared.Verdict.TheVariants as verdict
+use Rattle.refusal.specs.Verdict.{Verdict}
 use Rattle.node_attempt.specs.Attempt.{is_waiting, is_joined, attempt, valid}
 use Rattle.node_attempt.specs.declared.attempt.Attempt.{Attempt}
 use Rattle.node_attempt.specs.declared.attempt.Phase.{Phase}
@@ -34,7 +33,7 @@ may_come delivery a time len =
     cond (valid a)
     (cond (leb len 256)
     (cond (leb a.clock time)
-    (cond (belongs delivery a.phase) verdict.Accepted (verdict.Refused refusal.Phase))
-    (verdict.Refused refusal.Clock))
-    (verdict.Refused refusal.Long))
-    (verdict.Refused refusal.Range)
+    (cond (belongs delivery a.phase) (Ok tt) (Err refusal.Phase))
+    (Err refusal.Clock))
+    (Err refusal.Long))
+    (Err refusal.Range)

@@ -1,16 +1,15 @@
 -- What a call may make of a node's key sets: it leaves them, counts one sending, installs a set, or switches. Each call's definition says
 -- which.
+use Rattle.std.specs.Prelude.{Result, Ok, Err}
+use Rattle.refusal.specs.declared.Refusal.{Refusal}
 use Prim.Native.Nat.{ℕ}
 use mathlib.Core.Path.{◌≡◌, refl, ap}
 use mathlib.Core.Bool.{Bool, true, false, cond}
 use mathlib.Core.List.{List}
 use mathlib.Core.Option.{some}
 use Rattle.refusal.specs.declared.Refusal.TheVariants as refusal
-use Rattle.refusal.specs.declared.Verdict.{Verdict}
-use Rattle.refusal.specs.declared.Verdict.TheVariants as verdict
+use Rattle.refusal.specs.Verdict.{Verdict}
 use Rattle.byte_io.specs.Write.{answer}
-use Rattle.byte_io.specs.declared.WriteResult.{WriteResult}
-use Rattle.byte_io.specs.declared.WriteResult.TheVariants as written
 use Rattle.link_key.specs.set.KeySet.{has}
 use Rattle.link_key.specs.declared.set.key_set.KeySet.{KeySet}
 use Rattle.link_key_counters.specs.Counters.{Slot, first_serving, raised}
@@ -21,10 +20,8 @@ use Rattle.cojp.specs.declared.disposition.Disposition.{Disposition}
 use Rattle.cojp.specs.declared.disposition.Disposition.TheVariants.{Absent, Taken, Discarded}
 use Rattle.node_key_sets.specs.Sets.{active_in, two_sets, placed, install}
 use Rattle.node_key_sets.specs.Frames.{receiving_key, switched, effect_by, verified_in}
-use Rattle.node_key_sets.specs.declared.frames.Change.TheVariants as change
 use Rattle.node_key_sets.specs.declared.sets.KeySets.{KeySets}
 use Rattle.node_attempt.specs.Poll as attempt
-use Rattle.node_attempt.specs.declared.poll.Due.TheVariants as due
 use Rattle.node_attempt.specs.declared.delivery.Delivery.{Delivery}
 use Rattle.node.specs.Delivery.{placement_of, fitted, configured, undelivered, owes_identifier, placed_by}
 use Rattle.node.specs.Delivery.{apply, deliver_verdict, apply_read, deliver_by, read_for, deliver}
@@ -45,15 +42,15 @@ pub data Move (border : Bool) (s t : KeySets) : Type 0 where
   switches : t ≡ switched s → Move border s t
 
 -- ---- starts and polls
-start-moves : (w : WriteResult) (n : Node) (time timeout : ℕ) → (started_by w n (started_from n time timeout)).node.sets ≡ n.sets
-start-moves (written.Refused k) n time timeout = refl
-start-moves (written.Length l) n time timeout = refl
+start-moves : (w : Result ℕ Refusal) (n : Node) (time timeout : ℕ) → (started_by w n (started_from n time timeout)).node.sets ≡ n.sets
+start-moves (Err k) n time timeout = refl
+start-moves (Ok l) n time timeout = refl
 
 poll-moves : (n : Node) (time : ℕ) → (poll n time).node.sets ≡ n.sets
 unfolding poll
 poll-moves n time = go (valid n)
   where
-    go : (b : Bool) → (cond b (polled_by n (attempt.poll n.attempt time)) (polled (due.Refused refusal.Range) n)).node.sets ≡ n.sets
+    go : (b : Bool) → (cond b (polled_by n (attempt.poll n.attempt time)) (polled (Err refusal.Range) n)).node.sets ≡ n.sets
     go true = refl
     go false = refl
 
@@ -69,8 +66,8 @@ module _ (delivery : Delivery) (n : Node) (time : ℕ) where
 
   placed_moves : (v : Verdict) (c : Configuration) (t : KeySets) → Moved t → Moved (placed_by v delivery n time c t).node.sets
   unfolding configured
-  placed_moves (verdict.Refused k) c t m = stays refl
-  placed_moves verdict.Accepted c t m = m
+  placed_moves (Err k) c t m = stays refl
+  placed_moves (Ok tt) c t m = m
 
   apply-moves : (c : Configuration) → Moved (apply delivery n time c).node.sets
   unfolding apply
@@ -86,12 +83,12 @@ module _ (delivery : Delivery) (n : Node) (time : ℕ) where
           (taken-moves c.keys.disposition c.keys.value)
 
   read-moves : (v : Verdict) (c : Configuration) → Moved (apply_read v delivery n time c).node.sets
-  read-moves (verdict.Refused k) c = stays refl
-  read-moves verdict.Accepted c = apply-moves (fitted n c)
+  read-moves (Err k) c = stays refl
+  read-moves (Ok tt) c = apply-moves (fitted n c)
 
   by-moves : (v : Verdict) (r : ConfigurationRead) → Moved (deliver_by v delivery n time r).node.sets
-  by-moves (verdict.Refused k) r = stays refl
-  by-moves verdict.Accepted r = read-moves r.verdict r.configuration
+  by-moves (Err k) r = stays refl
+  by-moves (Ok tt) r = read-moves r.verdict r.configuration
 
   deliver-moves : (payload : List ℕ) → Moved (deliver delivery n time payload).node.sets
   unfolding deliver
@@ -99,9 +96,9 @@ module _ (delivery : Delivery) (n : Node) (time : ℕ) where
 
 -- ---- verified frames
 effect-moves : (border : Bool) (s : KeySets) (v : Verdict) (active : Bool) → Move border s (effect_by v active s).sets
-effect-moves border s (verdict.Refused k) active = stays refl
-effect-moves border s verdict.Accepted true = stays refl
-effect-moves border s verdict.Accepted false = switches refl
+effect-moves border s (Err k) active = stays refl
+effect-moves border s (Ok tt) true = stays refl
+effect-moves border s (Ok tt) false = switches refl
 
 report-moves : (n : Node) (type identifier : ℕ) → Move (is_border n) n.sets (verified n type identifier).node.sets
 unfolding verified verified_in
@@ -110,7 +107,7 @@ report-moves n type identifier = go (valid n)
     go :
         (b : Bool) →
         Move (is_border n) n.sets
-        (cond b (reported_by n (verified_in n.sets type identifier)) (reported (change.Refused refusal.Range) n)).node.sets
+        (cond b (reported_by n (verified_in n.sets type identifier)) (reported (Err refusal.Range) n)).node.sets
     go true = effect-moves (is_border n) n.sets (receiving_key n.sets type identifier).verdict (has identifier (active_in n.sets))
     go false = stays refl
 
@@ -119,9 +116,9 @@ module _ (L : NodeLaws) (A : AnswersSay) where
   send-moves : (n : Node) (type : ℕ) (v : Verdict) → (send n type).verdict ≡ v
       → Move (is_border n) n.sets (perform (sending type) n).node.sets
   unfolding perform
-  send-moves n type verdict.Accepted e =
+  send-moves n type (Ok tt) e =
       let c = A.send-counts n type e in counts type c.slot c.first (ap (λ (m : Node). m.sets) c.after)
-  send-moves n type (verdict.Refused k) e = stays (ap (λ (m : Node). m.sets) (L.send-refused n type k e))
+  send-moves n type (Err k) e = stays (ap (λ (m : Node). m.sets) (L.send-refused n type k e))
 
   pub moves : (c : NodeCall) (n : Node) → Move (is_border n) n.sets (perform c n).node.sets
   unfolding perform start

@@ -1,4 +1,5 @@
 -- While the key stays, no move of the sets lowers its counter, and a sending under it answers the counter and leaves one more.
+use Rattle.std.specs.Prelude.{Ok}
 use Prim.Native.Nat.{ℕ, ◌≤◌, ◌<◌}
 use native.Mathlib.Omega.{arith}
 use mathlib.Core.Path.{◌≡◌, refl, sym, ap, subst, ◌∙◌}
@@ -8,7 +9,6 @@ use mathlib.Core.Option.{some}
 use lib.ListN.{length}
 use Rattle.refusal.specs.Verdict.{verdict_number}
 use Rattle.refusal.specs.declared.Refusal.TheVariants as refusal
-use Rattle.refusal.specs.declared.Verdict.TheVariants.{Accepted}
 use Rattle.lemmas.specs.logic.Tests.{first}
 use Rattle.link_key.specs.Key.{same_secret}
 use Rattle.link_key.specs.declared.Key.{Key}
@@ -60,7 +60,7 @@ made-sized version role network = go (valid_role role) (valid_octets network)
     go :
         (r o : Bool) →
         Sized
-        (cond r (cond o (record { verdict = Accepted; node = fresh_node version role (known_octets network) }) unmade) unmade).node.sets
+        (cond r (cond o (record { verdict = Ok tt; node = fresh_node version role (known_octets network) }) unmade) unmade).node.sets
     go true true = record { active = refl; pending = refl }
     go true false = record { active = refl; pending = refl }
     go false o = record { active = refl; pending = refl }
@@ -170,7 +170,7 @@ module _ (K : KeyLaws) (C : CounterLaws) (P : KeptLaws) (L : NodeLaws) (A : Answ
         omega (arith, one, rest)
 
   -- ---- what a sending answers
-  valid-by-answer : (n : Node) (type : ℕ) (b : Bool) → valid n ≡ b → (perform (sending type) n).verdict ≡ Accepted → Valid n
+  valid-by-answer : (n : Node) (type : ℕ) (b : Bool) → valid n ≡ b → (perform (sending type) n).verdict ≡ Ok tt → Valid n
   valid-by-answer n type true e a = e
   valid-by-answer n type false e a = let z : ◌≡◌ {A = ℕ} 0 13 = sym (ap verdict_number a) ∙ A.invalid (sending type) n e in
       absurd (omega (arith, z))

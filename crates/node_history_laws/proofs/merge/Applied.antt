@@ -1,13 +1,13 @@
 -- Parameter by parameter: what the second takes overrides the first, what it does not take leaves what the first left. A key set's place
 -- goes by the active set alone, which an accepted set leaves at an ordinary node, and at a border router by nothing that is held but the
 -- counters.
+use Rattle.std.specs.Prelude.{Ok, Err}
 use Prim.Native.Nat.{ℕ}
 use mathlib.Core.Path.{◌≡◌, refl, ap, sym, ◌∙◌}
 use mathlib.Core.Bool.{Bool, true, false, cond}
 use native.Mathlib.Omega.{arith}
 use Rattle.refusal.specs.declared.Refusal.TheVariants as refusal
-use Rattle.refusal.specs.declared.Verdict.{Verdict}
-use Rattle.refusal.specs.declared.Verdict.TheVariants.{Accepted, Refused}
+use Rattle.refusal.specs.Verdict.{Verdict}
 use Rattle.link_key.specs.set.KeySet.{keys_of, valid_set, same_keys, shares}
 use Rattle.link_key.specs.declared.set.key_set.KeySet.{KeySet}
 use Rattle.link_key_counters.specs.CounterLaws.{CounterLaws}
@@ -120,14 +120,14 @@ ordinary_place sets set allowed same shared =
 
 -- an accepted set leaves an ordinary node's active set
 ordinary-stays :
-    (sets : KeySets) (set : KeySet) (allowed same shared : Bool) → (ordinary_place sets set allowed same shared).verdict ≡ Accepted →
+    (sets : KeySets) (set : KeySet) (allowed same shared : Bool) → (ordinary_place sets set allowed same shared).verdict ≡ Ok tt →
     (ordinary_place sets set allowed same shared).sets.active ≡ sets.active
 ordinary-stays sets set false same shared e = absurd (let z : ◌≡◌ {A = ℕ} 0 1 = cc in omega arith)
 ordinary-stays sets set true true shared e = refl
 ordinary-stays sets set true false true e = absurd (let z : ◌≡◌ {A = ℕ} 0 1 = cc in omega arith)
 ordinary-stays sets set true false false e = refl
 
-active-stays : (sets : KeySets) (set : KeySet) → (install false sets set).verdict ≡ Accepted
+active-stays : (sets : KeySets) (set : KeySet) → (install false sets set).verdict ≡ Ok tt
     → (install false sets set).sets.active ≡ sets.active
 unfolding install
 active-stays sets set e =
@@ -136,7 +136,7 @@ active-stays sets set e =
 -- two pairs of sets with the same active one take an accepted set alike
 alike-by :
     (a b : KeySets) (set : KeySet) (allowed same shared : Bool) → b.active ≡ a.active →
-    (ordinary_place b set allowed same shared).verdict ≡ Accepted →
+    (ordinary_place b set allowed same shared).verdict ≡ Ok tt →
     ordinary_place a set allowed same shared ≡ ordinary_place b set allowed same shared
 alike-by a b set false same shared h e = absurd (let z : ◌≡◌ {A = ℕ} 0 1 = cc in omega arith)
 alike-by a b set true true shared h e = rw h
@@ -144,7 +144,7 @@ alike-by a b set true false true h e = absurd (let z : ◌≡◌ {A = ℕ} 0 1 =
 alike-by a b set true false false h e = rw h
 
 install-alike :
-    (a b : KeySets) (set : KeySet) → b.active ≡ a.active → (install false b set).verdict ≡ Accepted
+    (a b : KeySets) (set : KeySet) → b.active ≡ a.active → (install false b set).verdict ≡ Ok tt
     → install false a set ≡ install false b set
 unfolding install
 install-alike a b set h e =
@@ -152,14 +152,14 @@ install-alike a b set h e =
     let t = alike-by a b set (valid_set set) (same_keys (keys_of set) (active_in a)) (shares (keys_of set) (active_in a)) h
     in t (rw keys at e) ∙ rw keys
 
-accepted-placement : (p : InstallResult) → p.verdict ≡ Accepted → p ≡ placed p.sets
+accepted-placement : (p : InstallResult) → p.verdict ≡ Ok tt → p ≡ placed p.sets
 accepted-placement p e = ap (λ (v : Verdict). record { verdict = v; sets = p.sets }) e
 
 module _ (C : CounterLaws) where
   -- a border router's set is the new one, whatever it held
   border-by :
       (a b : KeySets) (set : KeySet) (allowed : Bool) →
-      (cond allowed (placed (two_sets (inherit_counters b.active set) no_counted)) (unplaced refusal.Range b)).verdict ≡ Accepted →
+      (cond allowed (placed (two_sets (inherit_counters b.active set) no_counted)) (unplaced refusal.Range b)).verdict ≡ Ok tt →
       SamePlace true (cond allowed (placed (two_sets (inherit_counters a.active set) no_counted)) (unplaced refusal.Range a))
       (cond allowed (placed (two_sets (inherit_counters b.active set) no_counted)) (unplaced refusal.Range b))
   border-by a b set true e = record {
@@ -173,15 +173,15 @@ module _ (C : CounterLaws) where
   }
   border-by a b set false e = absurd (let z : ◌≡◌ {A = ℕ} 0 1 = cc in omega arith)
 
-  border-alike : (a b : KeySets) (set : KeySet) → (install true b set).verdict ≡ Accepted
+  border-alike : (a b : KeySets) (set : KeySet) → (install true b set).verdict ≡ Ok tt
       → SamePlace true (install true a set) (install true b set)
   unfolding install
   border-alike a b set e = border-by a b set (valid_set set) e
 
   -- the second's set, installed after the first's or at once
   both-taken :
-      (border : Bool) (sets : KeySets) (f s : KeySet) → (install border sets f).verdict ≡ Accepted →
-      (install border (install border sets f).sets s).verdict ≡ Accepted →
+      (border : Bool) (sets : KeySets) (f s : KeySet) → (install border sets f).verdict ≡ Ok tt →
+      (install border (install border sets f).sets s).verdict ≡ Ok tt →
       SamePlace border (install border sets s) (install border (install border sets f).sets s)
   both-taken true sets f s e h = border-alike sets (install true sets f).sets s h
   both-taken false sets f s e h =
@@ -197,8 +197,8 @@ module _ (C : CounterLaws) where
       if_taken r (install border (once border sets f q).sets s.value) (placed (once border sets f q).sets)
 
   keys-by :
-      (border : Bool) (sets : KeySets) (f s : KeysParameter) (q r : Disposition) → (once border sets f q).verdict ≡ Accepted →
-      (twice border sets f s q r).verdict ≡ Accepted →
+      (border : Bool) (sets : KeySets) (f s : KeysParameter) (q r : Disposition) → (once border sets f q).verdict ≡ Ok tt →
+      (twice border sets f s q r).verdict ≡ Ok tt →
       SamePlace border (if_taken r (install border sets s.value) (once border sets f q)) (twice border sets f s q r)
   keys-by border sets f s Absent Absent e h = equal-place border _ _ refl
   keys-by border sets f s Discarded Absent e h = equal-place border _ _ refl
@@ -219,24 +219,24 @@ merged-place border sets f s Discarded e = rw e
 
 -- ---- the node
 placed-accepted : (v : Verdict) (n : Node) (time : ℕ) (c : Configuration) (sets : KeySets)
-    → (placed_by v Update n time c sets).verdict ≡ Accepted → v ≡ Accepted
-placed-accepted Accepted n time c sets e = refl
-placed-accepted (Refused k) n time c sets e = absurd (let z : ◌≡◌ {A = ℕ} 0 1 = cc in omega arith)
+    → (placed_by v Update n time c sets).verdict ≡ Ok tt → v ≡ Ok tt
+placed-accepted (Ok tt) n time c sets e = refl
+placed-accepted (Err k) n time c sets e = absurd (let z : ◌≡◌ {A = ℕ} 0 1 = cc in omega arith)
 
-pub placement-accepted : (n : Node) (time : ℕ) (c : Configuration) → (apply Update n time c).verdict ≡ Accepted
-    → (placement_of n c.keys).verdict ≡ Accepted
+pub placement-accepted : (n : Node) (time : ℕ) (c : Configuration) → (apply Update n time c).verdict ≡ Ok tt
+    → (placement_of n c.keys).verdict ≡ Ok tt
 unfolding apply
 placement-accepted n time c e = placed-accepted (placement_of n c.keys).verdict n time c (placement_of n c.keys).sets e
 
 abbrev pub after : Node → ℕ → Configuration → Node
 after n time c = configured Update n time c (placement_of n c.keys).sets (dispositions_of (is_border n) c)
 
-placed_by_lem : (v : Verdict) (n : Node) (time : ℕ) (c : Configuration) (sets : KeySets) → v ≡ Accepted
+placed_by_lem : (v : Verdict) (n : Node) (time : ℕ) (c : Configuration) (sets : KeySets) → v ≡ Ok tt
     → placed_by v Update n time c sets
     ≡ delivered (dispositions_of (is_border n) c) (configured Update n time c sets (dispositions_of (is_border n) c))
 placed_by_lem v n time c sets e = rw e
 
-pub apply-is : (n : Node) (time : ℕ) (c : Configuration) → (placement_of n c.keys).verdict ≡ Accepted
+pub apply-is : (n : Node) (time : ℕ) (c : Configuration) → (placement_of n c.keys).verdict ≡ Ok tt
     → apply Update n time c ≡ delivered (dispositions_of (is_border n) c) (after n time c)
 unfolding apply
 apply-is n time c e = placed_by_lem (placement_of n c.keys).verdict n time c (placement_of n c.keys).sets e
@@ -247,8 +247,8 @@ unfolding apply configured
 version-stays n time c = go (placement_of n c.keys).verdict
   where
     go : (v : Verdict) → (placed_by v Update n time c (placement_of n c.keys).sets).node.version ≡ n.version
-    go Accepted = refl
-    go (Refused k) = refl
+    go (Ok tt) = refl
+    go (Err k) = refl
 
 -- two nodes that differ at most in these fields are equal where the fields are
 module _ (base : Node) where
@@ -273,9 +273,9 @@ module _ (base : Node) where
   node_of e f g h o x y z = rw (e, f, g, h, o, x, y, z)
 
 module _ (C : CounterLaws) (n : Node) (time : ℕ) (f s : Configuration) (x : OfDraft f) (y : OfDraft s)
-    (e : (placement_of n f.keys).verdict ≡ Accepted) where
+    (e : (placement_of n f.keys).verdict ≡ Ok tt) where
   same_place :
-      (placement_of (after n time f) s.keys).verdict ≡ Accepted →
+      (placement_of (after n time f) s.keys).verdict ≡ Ok tt →
       SamePlace (is_border n) (placement_of n (merged f s).keys) (placement_of (after n time f) s.keys)
   unfolding configured
   same_place h =

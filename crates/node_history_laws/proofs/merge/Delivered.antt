@@ -1,5 +1,6 @@
 -- An accepted payload is applied as the configuration that it reads as; the merged one is written, reads back as the same configuration,
 -- and so does the same to the node.
+use Rattle.std.specs.Prelude.{Ok, Err}
 use Prim.Native.Nat.{ℕ, ◌≤◌}
 use mathlib.Core.Path.{◌≡◌, refl, ap, sym, ◌∙◌, subst}
 use mathlib.Core.Bool.{Bool, true, false, cond, ◌&&◌}
@@ -9,8 +10,8 @@ use borrow.Author.Tests.{le-leb, eqb-true}
 use lib.Dec.{leb, eqb}
 use lib.ListN.{length}
 use Rattle.refusal.specs.declared.Refusal.TheVariants as refusal
-use Rattle.refusal.specs.declared.Verdict.{Verdict}
-use Rattle.refusal.specs.declared.Verdict.TheVariants.{Accepted, Refused}
+use Rattle.refusal.specs.Verdict.{Verdict}
+use Rattle.refusal.specs.RefusalLemmas.{refused-not}
 use Rattle.byte_io.specs.Write.{emit}
 use Rattle.cbor.specs.Encode.{encode}
 use Rattle.cbor.specs.Item.{map_item}
@@ -43,16 +44,16 @@ use Rattle.node_history_laws.proofs.merge.Exactly.{applies-exactly}
 
 -- ---- an accepted payload
 module _ (n : Node) (time : ℕ) where
-  read-accepted : (v : Verdict) (c : Configuration) → (apply_read v Update n time c).verdict ≡ Accepted → v ≡ Accepted
-  read-accepted Accepted c e = refl
-  read-accepted (Refused k) c e = absurd (let z : ◌≡◌ {A = ℕ} 0 1 = cc in omega arith)
+  read-accepted : (v : Verdict) (c : Configuration) → (apply_read v Update n time c).verdict ≡ Ok tt → v ≡ Ok tt
+  read-accepted (Ok tt) c e = refl
+  read-accepted (Err k) c e = absurd (let z : ◌≡◌ {A = ℕ} 0 1 = cc in omega arith)
 
-  both-accepted : (v : Verdict) (r : ConfigurationRead) → (deliver_by v Update n time r).verdict ≡ Accepted
-      → (v ≡ Accepted) × (r.verdict ≡ Accepted)
-  both-accepted Accepted r e = (refl, read-accepted r.verdict r.configuration e)
-  both-accepted (Refused k) r e = absurd (let z : ◌≡◌ {A = ℕ} 0 1 = cc in omega arith)
+  both-accepted : (v : Verdict) (r : ConfigurationRead) → (deliver_by v Update n time r).verdict ≡ Ok tt
+      → (v ≡ Ok tt) × (r.verdict ≡ Ok tt)
+  both-accepted (Ok tt) r e = (refl, read-accepted r.verdict r.configuration e)
+  both-accepted (Err k) r e = absurd (let z : ◌≡◌ {A = ℕ} 0 1 = cc in omega arith)
 
-  by-accepted : (v : Verdict) (r : ConfigurationRead) → v ≡ Accepted → r.verdict ≡ Accepted
+  by-accepted : (v : Verdict) (r : ConfigurationRead) → v ≡ Ok tt → r.verdict ≡ Ok tt
       → deliver_by v Update n time r ≡ apply Update n time (fitted n r.configuration)
   by-accepted v r e f = rw (e, f)
 
@@ -65,34 +66,36 @@ module _ (n : Node) (time : ℕ) where
     unfolding fitted
     all-fits c = ap (λ (v : Version). by_version v c (fitted_by (placement_of n c.keys).verdict c)) old
 
-    met : (p : List ℕ) → (deliver Update n time p).verdict ≡ Accepted
-        → (deliver_verdict Update n time (length p) ≡ Accepted) × ((read_configuration p).verdict ≡ Accepted)
+    met : (p : List ℕ) → (deliver Update n time p).verdict ≡ Ok tt
+        → (deliver_verdict Update n time (length p) ≡ Ok tt) × ((read_configuration p).verdict ≡ Ok tt)
     unfolding deliver
     met p e =
         let both = both-accepted (deliver_verdict Update n time (length p)) (read_for n p) e in
-        (both.0, subst (λ (r : ConfigurationRead). r.verdict ≡ Accepted) (read-so p) both.1)
+        (both.0, subst (λ (r : ConfigurationRead). r.verdict ≡ Ok tt) (read-so p) both.1)
 
-    applied : (p : List ℕ) → deliver_verdict Update n time (length p) ≡ Accepted → (read_configuration p).verdict ≡ Accepted
+    applied : (p : List ℕ) → deliver_verdict Update n time (length p) ≡ Ok tt → (read_configuration p).verdict ≡ Ok tt
         → deliver Update n time p ≡ apply Update n time (read_configuration p).configuration
     unfolding deliver
     applied p e f =
-        let read = subst (λ (r : ConfigurationRead). r.verdict ≡ Accepted) (sym (read-so p)) f in
+        let read = subst (λ (r : ConfigurationRead). r.verdict ≡ Ok tt) (sym (read-so p)) f in
         let so = all-fits (read_for n p).configuration ∙ ap (λ (r : ConfigurationRead). r.configuration) (read-so p) in
         by-accepted (deliver_verdict Update n time (length p)) (read_for n p) e read ∙ ap (λ (c : Configuration). apply Update n time c) so
 
   -- another payload may come where this one may, if it is not LONG
   tests : (v a l m c b : Bool)
-      → cond v (cond a (cond l (cond c (cond b Accepted (Refused refusal.Phase)) (Refused refusal.Clock)) (Refused refusal.Long))
-      (Refused refusal.Range)) (Refused refusal.Range) ≡ Accepted
+      → ◌≡◌ {A = Verdict}
+      (cond v (cond a (cond l (cond c (cond b (Ok tt) (Err refusal.Phase)) (Err refusal.Clock)) (Err refusal.Long))
+      (Err refusal.Range)) (Err refusal.Range)) (Ok tt)
       → m ≡ true
-      → cond v (cond a (cond m (cond c (cond b Accepted (Refused refusal.Phase)) (Refused refusal.Clock)) (Refused refusal.Long))
-      (Refused refusal.Range)) (Refused refusal.Range) ≡ Accepted
-  tests false a l m c b e h = absurd (let z : ◌≡◌ {A = ℕ} 0 1 = cc in omega arith)
-  tests true false l m c b e h = absurd (let z : ◌≡◌ {A = ℕ} 0 1 = cc in omega arith)
-  tests true true false m c b e h = absurd (let z : ◌≡◌ {A = ℕ} 0 1 = cc in omega arith)
+      → ◌≡◌ {A = Verdict}
+      (cond v (cond a (cond m (cond c (cond b (Ok tt) (Err refusal.Phase)) (Err refusal.Clock)) (Err refusal.Long))
+      (Err refusal.Range)) (Err refusal.Range)) (Ok tt)
+  tests false a l m c b e h = refused-not refusal.Range e
+  tests true false l m c b e h = refused-not refusal.Range e
+  tests true true false m c b e h = refused-not refusal.Long e
   tests true true true m c b e h = rw h e
 
-  may-come-too : (k len : ℕ) → deliver_verdict Update n time k ≡ Accepted → len ≤ 256 → deliver_verdict Update n time len ≡ Accepted
+  may-come-too : (k len : ℕ) → deliver_verdict Update n time k ≡ Ok tt → len ≤ 256 → deliver_verdict Update n time len ≡ Ok tt
   unfolding deliver_verdict may_come
   may-come-too k len e h =
       tests (valid n) (attempt.valid n.attempt) (leb k 256) (leb len 256) (leb n.attempt.clock time)

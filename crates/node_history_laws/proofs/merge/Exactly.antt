@@ -1,9 +1,9 @@
 -- Two configurations of the draft that take equal values do the same to a node: each parameter acts by what is taken of it.
+use Rattle.std.specs.Prelude.{Ok}
 use Prim.Native.Nat.{ℕ}
 use mathlib.Core.Path.{◌≡◌, refl, ap, sym, ◌∙◌}
 use mathlib.Core.Bool.{Bool, true, false}
 use mathlib.Core.Option.{Option, none, some}
-use Rattle.refusal.specs.declared.Verdict.TheVariants.{Accepted}
 use Rattle.link_key.specs.declared.set.key_set.KeySet.{KeySet}
 use Rattle.cojp.specs.Reading.{if_taken}
 use Rattle.cojp.specs.declared.address.ShortAddress.{ShortAddress}
@@ -86,8 +86,8 @@ module _ (n : Node) (time : ℕ) (c d : Configuration) (t : TakesEqual c d) (x :
       (alike held_rate n.rate c.rate.value d.rate.value c.rate.disposition d.rate.disposition t.rate)
       (none-reported c x ∙ sym (none-reported d y))
 
-  pub applies-exactly : (apply Update n time d).verdict ≡ Accepted
-      → ((apply Update n time c).verdict ≡ Accepted) × ((apply Update n time c).node ≡ (apply Update n time d).node)
+  pub applies-exactly : (apply Update n time d).verdict ≡ Ok tt
+      → ((apply Update n time c).verdict ≡ Ok tt) × ((apply Update n time c).node ≡ (apply Update n time d).node)
   applies-exactly e =
       let theirs = placement-accepted n time d e in
       let ours = apply-is n time c (ap (λ (p : InstallResult). p.verdict) place-alike ∙ theirs) in (

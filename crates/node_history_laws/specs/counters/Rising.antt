@@ -1,8 +1,7 @@
 -- No counter is used twice with one key (document 02, request 9), said of calls and answers: from a fresh node on, whatever calls come,
 -- each sending under a key answers a higher counter than every one before it, while a key with its identifier and value stays active. A key
 -- that left the active set and comes back counts from 0 again, which 02 asks for ("0 on arrival") and no node can tell: Example has one.
-use Rattle.std.specs.Prelude.{ℕ, ◌<◌, ◌≡◌, true, List, [], ◌∷◌}
-use Rattle.refusal.specs.declared.Verdict.TheVariants.{Accepted}
+use Rattle.std.specs.Prelude.{ℕ, ◌<◌, ◌≡◌, true, List, [], ◌∷◌, Ok}
 use Rattle.link_key.specs.Key.{same_secret}
 use Rattle.link_key.specs.declared.Key.{Key}
 use Rattle.link_key_counters.specs.history.Kept.{Holds}
@@ -19,7 +18,7 @@ after n (c ∷ cs) = after (perform c n).node cs
 
 -- asked to send, the node answers this key with this counter
 pub record Answers (n : Node) (type : ℕ) (k : Key) (counter : ℕ) : Type 0 where
-  pub accepted : (perform (sending type) n).verdict ≡ Accepted
+  pub accepted : (perform (sending type) n).verdict ≡ Ok tt
   pub object : (perform (sending type) n).object ≡ counted k counter
 
 -- at every moment of the calls, their start and their end included, the node's active set has a key with that identifier and value

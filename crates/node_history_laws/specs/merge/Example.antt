@@ -2,9 +2,8 @@
 -- of these. A set with another key of identifier 1 is CLASH;
 -- merged with the new key it is not there any more, and the merged one is accepted:
 -- the law does not speak of such a pair.
-use Rattle.std.specs.Prelude.{ℕ, ◌≡◌, List, [], ◌∷◌, ◌++◌, replicate}
+use Rattle.std.specs.Prelude.{ℕ, ◌≡◌, List, [], ◌∷◌, ◌++◌, replicate, Ok, Err}
 use Rattle.refusal.specs.declared.Refusal.TheVariants.{Clash}
-use Rattle.refusal.specs.declared.Verdict.TheVariants.{Accepted, Refused}
 use Rattle.link_key.specs.Key.{key_of}
 use Rattle.cojp.specs.Configuration.{read_configuration}
 use Rattle.cojp.specs.ErrorReports.{no_error_reports}
@@ -64,10 +63,10 @@ new_address = 0xA1 ∷ an_address
 
 -- ---- inside and outside
 pub record AcceptedPair : Type 0 where
-  pub first : (updated joined new_key).verdict ≡ Accepted
-  pub second : (updated (updated joined new_key).node new_address).verdict ≡ Accepted
+  pub first : (updated joined new_key).verdict ≡ Ok tt
+  pub second : (updated (updated joined new_key).node new_address).verdict ≡ Ok tt
   pub written : joined_payload new_key new_address ≡ 0xA2 ∷ (one_key 2 0x33 ++ an_address)
 
 pub record RefusedPair : Type 0 where
-  pub first : (updated joined clashing).verdict ≡ Refused Clash
-  pub merged-all-the-same : (updated joined (joined_payload clashing new_key)).verdict ≡ Accepted
+  pub first : (updated joined clashing).verdict ≡ Err Clash
+  pub merged-all-the-same : (updated joined (joined_payload clashing new_key)).verdict ≡ Ok tt

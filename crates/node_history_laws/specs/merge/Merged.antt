@@ -3,8 +3,7 @@
 -- law are reports and passed-over counts, which are no part of the node; a border router's frame counters, since a key that it held, that
 -- the first has not and the second has, begins at 0 again after the two; a join answer, whose OWED may differ; and pairs of which one is
 -- refused: the merged one may then be accepted all the same (Example).
-use Rattle.std.specs.Prelude.{ℕ, ◌≤◌, ◌≡◌, true, false, List, length}
-use Rattle.refusal.specs.declared.Verdict.TheVariants.{Accepted}
+use Rattle.std.specs.Prelude.{ℕ, ◌≤◌, ◌≡◌, true, false, List, length, Ok}
 use Rattle.byte_io.specs.Write.{emit}
 use Rattle.cbor.specs.Encode.{encode}
 use Rattle.cbor.specs.Item.{map_item}
@@ -39,23 +38,23 @@ pub record OfDraft (c : Configuration) : Type 0 where
   pub met : c.labels.count ≡ 0
 
 pub record AppliedAsOne (n : Node) (time : ℕ) (first second : Configuration) : Type 0 where
-  pub accepted : (apply Update n time (merged first second)).verdict ≡ Accepted
+  pub accepted : (apply Update n time (merged first second)).verdict ≡ Ok tt
   pub node : TheSame n (apply Update n time (merged first second)).node (apply Update (apply Update n time first).node time second).node
 
 abbrev pub MergedApplies : Type 0
 MergedApplies =
-    (n : Node) (time : ℕ) (first second : Configuration) → OfDraft first → OfDraft second → (apply Update n time first).verdict ≡ Accepted →
-    (apply Update (apply Update n time first).node time second).verdict ≡ Accepted → AppliedAsOne n time first second
+    (n : Node) (time : ℕ) (first second : Configuration) → OfDraft first → OfDraft second → (apply Update n time first).verdict ≡ Ok tt →
+    (apply Update (apply Update n time first).node time second).verdict ≡ Ok tt → AppliedAsOne n time first second
 
 -- ---- payloads at a node of the draft: any two, and the one that is written of the merged configuration, in at most 232 bytes
 abbrev pub merged_payload : Configuration → Configuration → List ℕ
 merged_payload first second = encode (map_item (configuration_pairs (merged first second)))
 
 pub record DeliveredAsOne (n : Node) (time : ℕ) (p q : List ℕ) (first second : Configuration) : Type 0 where
-  pub merges : (merge_answer first second).verdict ≡ Accepted
+  pub merges : (merge_answer first second).verdict ≡ Ok tt
   pub writes : configuration_plan Draft (merge_answer first second).configuration ≡ emit (merged_payload first second)
   pub short : length (merged_payload first second) ≤ 232
-  pub accepted : (deliver Update n time (merged_payload first second)).verdict ≡ Accepted
+  pub accepted : (deliver Update n time (merged_payload first second)).verdict ≡ Ok tt
   pub node :
       TheSame n (deliver Update n time (merged_payload first second)).node
       (deliver Update (deliver Update n time p).node time q).node
@@ -64,5 +63,5 @@ abbrev pub MergedDelivers : Configuration → Configuration → Type 0
 MergedDelivers first second =
     (n : Node) (time : ℕ) (p q : List ℕ) → n.version ≡ Draft →
     (read_configuration p).configuration ≡ first → (read_configuration q).configuration ≡ second →
-    (deliver Update n time p).verdict ≡ Accepted → (deliver Update (deliver Update n time p).node time q).verdict ≡ Accepted →
+    (deliver Update n time p).verdict ≡ Ok tt → (deliver Update (deliver Update n time p).node time q).verdict ≡ Ok tt →
     DeliveredAsOne n time p q first second

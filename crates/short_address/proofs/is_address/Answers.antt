@@ -1,18 +1,10 @@
--- One test for each byte, as the definition has them.
-use mathlib.Core.Path.{◌≡◌}
-use borrow.Author.Rules.{rules}
-use lib.ListN.{length}
-use Rattle.short_address.proofs.Addresses.{high-other, high-last}
+-- An address is judged by its number.
+use Rattle.std.proofs.Common.{◌≡◌, length, rules}
+use Rattle.short_address.proofs.Addresses.{judged}
 use Rattle.short_address.proofs.is_address.Goals as goal
-
-pub returns-then-high : goal.returns-then-high
-returns-then-high c =
-    let bytes = c.args.bytes in
-    let two : length c.args.bytes ≡ 2 = search rules in
-    high-other bytes two c.if-high.true
 
 pub returns : goal.returns
 returns c =
     let bytes = c.args.bytes in
     let two : length c.args.bytes ≡ 2 = search rules in
-    high-last bytes two c.if-high.false
+    judged bytes _ two (search rules) c.from_be_bytes.ensures c.from_be_bytes.type_inv

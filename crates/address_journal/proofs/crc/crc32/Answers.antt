@@ -2,8 +2,8 @@
 use Rattle.address_journal.proofs.Remainder.{turn, stop}
 use Rattle.address_journal.proofs.crc.crc32.Goals as goal
 
-pub loop-i-preserved : goal.loop-i-preserved
-loop-i-preserved c = turn _ _ _ _ _ c.loop-i.invariant c.loop-i-test.true c.crc_byte-x.ensures
+pub loop-byte-preserved : goal.loop-byte-preserved
+loop-byte-preserved c = turn _ _ _ _ _ c.loop-byte.invariant c.loop-byte-test.true c.crc_byte-x.ensures
 
 pub returns : goal.returns
-returns c = stop _ _ _ _ c.loop-i.invariant c.loop-i-test.false
+returns c = stop _ _ _ _ c.loop-byte.invariant c.loop-byte-test.false

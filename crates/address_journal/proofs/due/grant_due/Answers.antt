@@ -8,19 +8,19 @@ use Rattle.address_journal.proofs.due.grant_due.Goals as goal
 pub grant_due_in-requires : goal.grant_due_in-requires
 grant_due_in-requires c =
     let a = c.args in
-    let accepted = sym c.in-Accepted.is ∙ c.judge.ensures in
+    let accepted = sym c.in-Ok.is ∙ c.judge.ensures in
     let n = counted_is a.ledger.first a.ledger.size (length a.memory.now) accepted c.count.result c.count.ensures in
     usable a.ledger.first a.ledger.size (length a.memory.now) accepted c.count.result n
 
-pub returns-in-Refused : goal.returns-in-Refused
-returns-in-Refused c =
-    due-refused c.args.ledger c.args.memory.now c.args.board.now c.in-Refused.field-0 (sym c.in-Refused.is
+pub returns-in-Err : goal.returns-in-Err
+returns-in-Err c =
+    due-refused c.args.ledger c.args.memory.now c.args.board.now c.in-Err.field-0 (sym c.in-Err.is
     ∙ c.judge.ensures)
 
-pub returns-in-Accepted : goal.returns-in-Accepted
-returns-in-Accepted c =
+pub returns-in-Ok : goal.returns-in-Ok
+returns-in-Ok c =
     let a = c.args in
-    let accepted = sym c.in-Accepted.is ∙ c.judge.ensures in
+    let accepted = sym c.in-Ok.is ∙ c.judge.ensures in
     let n = counted_is a.ledger.first a.ledger.size (length a.memory.now) accepted c.count.result c.count.ensures in
     due-accepted a.ledger a.memory.now a.board.now accepted c.count.result n c.grant_due_in.result
     c.grant_due_in.ensures

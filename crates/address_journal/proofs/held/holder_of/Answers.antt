@@ -1,56 +1,54 @@
 -- The verdict decides, then whether the address counts.
-use mathlib.Core.Path.{sym, ◌∙◌}
-use native.Mathlib.Omega.{arith}
-use lib.ListN.{length}
+use Rattle.std.proofs.Common.{◌≡◌, refl, arith, length}
+use Rattle.std.proofs.lemmas.Result.{err_from_is_err_and}
+use Rattle.address_ledger.specs.range.Range.{counted, Usable}
 use Rattle.address_ledger.proofs.range.Judged.{usable, counted_is}
 use Rattle.address_journal.proofs.Holding.{holder-refused, holder-below, holder-above, holder-inside}
 use Rattle.address_journal.proofs.held.holder_of.Goals as goal
+use Rattle.address_journal.proofs.held.holder_of.Goals.{After-count-n}
+
+number : (c : After-count-n) → c.count-n.result ≡ counted c.args.ledger.first c.args.ledger.size
+number c =
+    let l = c.args.ledger in
+    counted_is l.first l.size (length c.args.memory.now) c.in_ok-judge.ensures c.count-n.result c.count-n.ensures
+
+room : (c : After-count-n) → Usable c.args.ledger.first (length c.args.memory.now) c.count-n.result
+room c =
+    let l = c.args.ledger in
+    usable l.first l.size (length c.args.memory.now) c.in_ok-judge.ensures c.count-n.result (number c)
+
+pub returns-in_err-judge : goal.returns-in_err-judge
+returns-in_err-judge c =
+    let a = c.args in
+    let p = err_from_is_err_and c.from_residual.result c.from_residual.ensures.1 in
+    rw (p.1, p.2) (holder-refused a.ledger a.memory.now a.address _ c.in_err-judge.field-0.0 c.in_err-judge.ensures refl)
 
 pub returns-then-address-ledger : goal.returns-then-address-ledger
 returns-then-address-ledger c =
     let a = c.args in
-    let l = a.ledger in
-    let accepted = sym c.in-Accepted.is ∙ c.judge.ensures in
-    let n = counted_is a.ledger.first a.ledger.size (length a.memory.now) accepted c.count-n.result c.count-n.ensures in
-    holder-below l a.memory.now a.address c.no_holder-then-address-ledger.result accepted c.count-n.result n c.if-address-ledger.true
-    c.no_holder-then-address-ledger.ensures
+    let n = number (goal.at.returns-then-address-ledger c).After-count-n in
+    holder-below a.ledger a.memory.now a.address _ c.in_ok-judge.ensures c.count-n.result n c.if-address-ledger.true refl
 
-pub returns-then-n-address : goal.returns-then-n-address
-returns-then-n-address c =
+pub returns-then-n-slot : goal.returns-then-n-slot
+returns-then-n-slot c =
     let a = c.args in
-    let l = a.ledger in
-    let accepted = sym c.in-Accepted.is ∙ c.judge.ensures in
-    let n = counted_is a.ledger.first a.ledger.size (length a.memory.now) accepted c.count-n.result c.count-n.ensures in
-    holder-above l a.memory.now a.address c.no_holder-then-n-address.result accepted c.count-n.result n c.if-address-ledger.false
-    c.if-n-address.true
-    c.no_holder-then-n-address.ensures
+    let n = number (goal.at.returns-then-n-slot c).After-count-n in
+    holder-above a.ledger a.memory.now a.address _ c.in_ok-judge.ensures c.count-n.result n c.if-address-ledger.false
+    c.if-n-slot.true refl
 
 pub holder_in-requires-clause-slot_in_bounds : goal.holder_in-requires-clause-slot_in_bounds
 holder_in-requires-clause-slot_in_bounds c =
-    let a = c.args in
-    let accepted = sym c.in-Accepted.is ∙ c.judge.ensures in
-    let n = counted_is a.ledger.first a.ledger.size (length a.memory.now) accepted c.count-n.result c.count-n.ensures in
-    let u = usable a.ledger.first a.ledger.size (length a.memory.now) accepted c.count-n.result n in
-    omega (arith, u.room, c.if-address-ledger.false, c.if-n-address.false)
+    let u = room (goal.at.holder_in-requires-clause-slot_in_bounds c).After-count-n in
+    omega (arith, u.room, c.if-address-ledger.false, c.if-n-slot.false)
 
 pub holder_in-requires-clause-slot_bound : goal.holder_in-requires-clause-slot_bound
 holder_in-requires-clause-slot_bound c =
-    let a = c.args in
-    let accepted = sym c.in-Accepted.is ∙ c.judge.ensures in
-    let n = counted_is a.ledger.first a.ledger.size (length a.memory.now) accepted c.count-n.result c.count-n.ensures in
-    let u = usable a.ledger.first a.ledger.size (length a.memory.now) accepted c.count-n.result n in
-    omega (arith, u.size, c.if-address-ledger.false, c.if-n-address.false)
+    let u = room (goal.at.holder_in-requires-clause-slot_bound c).After-count-n in
+    omega (arith, u.size, c.if-address-ledger.false, c.if-n-slot.false)
 
-pub returns-in-Refused : goal.returns-in-Refused
-returns-in-Refused c =
-    holder-refused c.args.ledger c.args.memory.now c.args.address c.no_holder.result c.in-Refused.refusal (sym
-    c.in-Refused.is ∙ c.judge.ensures) c.no_holder.ensures
-
-pub returns-else-n-address : goal.returns-else-n-address
-returns-else-n-address c =
+pub returns : goal.returns
+returns c =
     let a = c.args in
-    let l = a.ledger in
-    let accepted = sym c.in-Accepted.is ∙ c.judge.ensures in
-    let n = counted_is a.ledger.first a.ledger.size (length a.memory.now) accepted c.count-n.result c.count-n.ensures in
-    holder-inside l a.memory.now a.address c.holder_in.result accepted c.count-n.result n c.if-address-ledger.false c.if-n-address.false
-    c.holder_in.ensures
+    let n = number (goal.at.returns c).After-count-n in
+    holder-inside a.ledger a.memory.now a.address _ c.in_ok-judge.ensures c.count-n.result n c.if-address-ledger.false
+    c.if-n-slot.false c.holder_in.ensures

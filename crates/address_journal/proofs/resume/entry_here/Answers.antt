@@ -1,6 +1,6 @@
 -- The kind decides.
 use Rattle.address_journal.proofs.Steps.{here-grant, here_back, here-none}
-use Rattle.address_journal.specs.declared.due.Due.TheVariants.{Nothing}
+use Rattle.std.specs.Prelude.{None}
 use Rattle.address_journal.proofs.resume.entry_here.Goals as goal
 
 pub returns-then-kind-eq1 : goal.returns-then-kind-eq1
@@ -18,4 +18,4 @@ returns-then-kind-eq2 c =
 pub returns : goal.returns
 returns c =
     let a = c.args in
-    here-none a.kind a.ledger a.memory.now a.board a.check _ Nothing c.if-kind-eq1.false c.if-kind-eq2.false c.entry_of-2.ensures
+    here-none a.kind a.ledger a.memory.now a.board a.check _ None c.if-kind-eq1.false c.if-kind-eq2.false c.entry_of-2.ensures

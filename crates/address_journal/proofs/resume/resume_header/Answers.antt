@@ -1,18 +1,17 @@
 -- One law for each way out.
-use mathlib.Core.Path.{sym, ◌∙◌}
+use mathlib.Core.Path.{refl, sym, ◌∙◌}
 use Rattle.address_journal.proofs.Steps.{header-short, header-zeros, header-taken, header-damaged}
 use Rattle.address_journal.proofs.resume.resume_header.Goals as goal
 
 pub returns-then-header-lt16 : goal.returns-then-header-lt16
 returns-then-header-lt16 c =
-    header-short c.args.memory.now c.args.header.now c.stopped.result c.empty.result c.empty.ensures c.if-header-lt16.true
+    header-short c.args.memory.now c.args.header.now c.stopped.result _ refl c.if-header-lt16.true
     c.stopped.ensures
 
 pub returns-then-same_bytes : goal.returns-then-same_bytes
 returns-then-same_bytes c =
     let a = c.args in
-    header-zeros a.memory.now a.header.now c.stopped-then-same_bytes.result c.empty-then-same_bytes.result
-    c.empty-then-same_bytes.ensures c.if-header-lt16.false
+    header-zeros a.memory.now a.header.now c.stopped-then-same_bytes.result _ refl c.if-header-lt16.false
     (sym c.if-same_bytes.true ∙ c.same_bytes.ensures) c.stopped-then-same_bytes.ensures
 
 pub returns-then-same_bytes-2 : goal.returns-then-same_bytes-2
@@ -24,7 +23,7 @@ returns-then-same_bytes-2 c =
 pub returns : goal.returns
 returns c =
     let a = c.args in
-    header-damaged a.memory.now a.header.now c.stopped-2.result c.empty-2.result c.empty-2.ensures c.if-header-lt16.false
+    header-damaged a.memory.now a.header.now c.stopped-2.result _ refl c.if-header-lt16.false
     (sym c.if-same_bytes.false ∙ c.same_bytes.ensures)
     c.two_at-first.result c.two_at-first.ensures c.two_at-size.result c.two_at-size.ensures c.header_of.result c.header_of.ensures
     (sym c.if-same_bytes-2.false ∙ c.same_bytes-2.ensures) c.stopped-2.ensures

@@ -10,6 +10,3 @@ invariant-loop-i l =
     (l.n ≤ l.i)
     × (count_free (slots (l.end - l.from) (drop (9 * l.from) l.memory))
     ≡ l.n + count_free (slots (l.end - l.i) (drop (9 * l.i) l.memory)))
-
-abbrev pub decreases-loop-i : goal.decreases-loop-i
-decreases-loop-i l = l.end - l.i

@@ -1,15 +1,9 @@
--- Each place of the block gets its byte of the headed data.
-use mathlib.Core.Path.{refl}
-use Rattle.lemmas.specs.lists.Filling.{begin, step, all}
-use Rattle.aes_ccm.specs.Ccm.{block}
+-- The length in two bytes and the first of the data, at the front of sixteen zeros.
+use Rattle.std.proofs.Common.{◌∙◌, arith}
+use Rattle.aes_ccm.proofs.Blocks.{headed-front, two-bytes}
 use Rattle.aes_ccm.proofs.block.headed_block.Goals as goal
 
-pub loop-i-init : goal.loop-i-init
-loop-i-init c = begin refl
-
-pub loop-i-preserved : goal.loop-i-preserved
-loop-i-preserved c = step c.loop-i.invariant c.loop-i-test.true c.headed_byte.ensures
-
 pub returns : goal.returns
-unfolding block
-returns c = all c.loop-i.invariant c.loop-i-test.false
+returns c =
+    headed-front c.args.a.now c.copy_from_slice.new.self c.copy_from_slice-2.new.self c.min-count.result c.requires.0 c.min-count.ensures
+    (c.copy_from_slice.ensures.after ∙ c.to_be_bytes.ensures ∙ two-bytes _ (omega arith)) c.copy_from_slice-2.ensures.after

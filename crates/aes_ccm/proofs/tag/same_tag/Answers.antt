@@ -1,16 +1,22 @@
 -- The invariant: the bits found to differ so far, and whether the rest is the same, say whether the lists are.
-use Rattle.lemmas.specs.lists.SameLemmas.{compare-step, compare-end}
-use lib.ListN.{length}
-use mathlib.Core.Path.{◌≡◌}
-use native.Mathlib.Omega.{arith}
-use borrow.Author.Rules.{rules}
+use Rattle.std.proofs.Common.{◌≡◌, length, arith, rules}
+use Rattle.std.proofs.lemmas.Slice.Zip.{zip_turn, zip_end}
+use Rattle.std.proofs.lemmas.List.{length_push}
+use Rattle.lemmas.specs.lists.SameLemmas.{compare-more, compare-end}
 use Rattle.aes_ccm.proofs.tag.same_tag.Goals as goal
 
-pub loop-i-preserved : goal.loop-i-preserved
-loop-i-preserved c =
+pub loop-x-preserved : goal.loop-x-preserved
+loop-x-preserved c =
     let n : length c.args.u ≡ 8 = search rules in
-    compare-step c.loop-i.invariant (omega arith) (omega arith) (omega arith)
+    let turn =
+    zip_turn c.args.s.now c.args.u c.loop-x.yielded c.into_iter-x-iterator.result c.loop-x.x-iterator c.next.new.self c.next.result
+    (search rules) (search rules) c.loop-x.yielded_by _ c.in-Some.is c.next.ensures.steps in
+    compare-more c.loop-x.invariant turn.0 turn.1 (omega arith) (turn.2 0) (turn.3 0) (length_push c.loop-x.yielded _)
 
 pub returns : goal.returns
-returns c = let n : length c.args.u ≡ 8 = search rules in
-    compare-end c.loop-i.invariant (omega arith) (omega arith)
+returns c =
+    let n : length c.args.u ≡ 8 = search rules in
+    let end =
+    zip_end c.args.s.now c.args.u c.loop-x.yielded c.into_iter-x-iterator.result c.loop-x.x-iterator c.next.new.self c.next.result
+    (search rules) (search rules) c.loop-x.yielded_by c.in-None.is c.next.ensures.steps in
+    compare-end c.loop-x.invariant (omega arith) (omega arith)

@@ -1,14 +1,9 @@
 -- From each byte string on the list is judged as from the first.
-use Prim.Native.Nat.{◌≤◌}
-use mathlib.Core.Path.{◌≡◌}
-use lib.ListN.{length}
+use Rattle.std.proofs.Common.{◌≡◌, ◌≤◌, length}
 use Rattle.cojp.specs.Lists.{strings_in, kept}
 use Rattle.capi_judge.specs.Kept.{list_in}
 use Rattle.capi_judge.proofs.Strings.{made}
 use Rattle.capi_judge.proofs.list.is_blacklist_in.Given as goal
 
 abbrev pub invariant-loop-left : goal.invariant-loop-left
-invariant-loop-left l = (l.at ≤ length l.s) × (kept strings_in (list_in l.count l.s) ≡ made l.s l.at l.left)
-
-abbrev pub decreases-loop-left : goal.decreases-loop-left
-decreases-loop-left l = l.left
+invariant-loop-left l = (l.at ≤ length l.s) × (kept strings_in (list_in l.fn.count l.s) ≡ made l.s l.at l.left)

@@ -8,13 +8,13 @@ use Rattle.capi_judge.proofs.state.published_valid.Goals as goal
 pub returns-then-len-gt253 : goal.returns-then-len-gt253
 returns-then-len-gt253 c =
     list-long c.args.s.now c.requires (is_false c.bool_at.ensures c.if-bool_at.false)
-    (is_true c.bool_at-2.ensures c.if-not-bool_at.false) c.as_count-count.result c.as_index-len.result
-    c.as_count-count.ensures
-    c.as_index-len.ensures c.if-len-gt253.true
+    (is_true c.bool_at-2.ensures c.if-not-bool_at.false) c.from-count.result c.from-len.result
+    c.from-count.ensures
+    c.from-len.ensures c.if-len-gt253.true
 
 pub returns : goal.returns
 returns c =
     list-so c.args.s.now c.requires (is_false c.bool_at.ensures c.if-bool_at.false)
-    (is_true c.bool_at-2.ensures c.if-not-bool_at.false) c.as_count-count.result c.as_index-len.result
-    c.as_count-count.ensures
-    c.as_index-len.ensures ((605 + c.as_index-len.result) - 605) (omega arith) c.if-len-gt253.false c.is_blacklist_in.ensures
+    (is_true c.bool_at-2.ensures c.if-not-bool_at.false) c.from-count.result c.from-len.result
+    c.from-count.ensures
+    c.from-len.ensures ((605 + c.from-len.result) - 605) (omega arith) c.if-len-gt253.false c.is_blacklist_in.ensures

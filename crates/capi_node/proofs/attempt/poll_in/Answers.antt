@@ -32,6 +32,6 @@ returns c =
       due = poll-due c.args.node.now c.args.time valid c.poll-polled.result c.attempt_at.result
           c.attempt_at.ensures c.poll-polled.ensures;
       node = poll-node c.args.node.now c.args.time valid c.poll-polled.result c.attempt_at.result
-          c.attempt_at.ensures c.poll-polled.ensures c.verdict.ensures
+          c.attempt_at.ensures c.poll-polled.ensures c.verdict_of.ensures
           c.store_attempt.ensures;
     }

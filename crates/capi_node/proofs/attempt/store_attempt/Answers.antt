@@ -18,11 +18,11 @@ pub put_attempt-requires : goal.put_attempt-requires
 put_attempt-requires c =
     omega (arith, long node_image c.args.node.now c.requires)
 
-pub returns-in-Accepted : goal.returns-in-Accepted
-returns-in-Accepted c =
-    rw c.in-Accepted.is
+pub returns-in-Ok : goal.returns-in-Ok
+returns-in-Ok c =
+    rw c.in-Ok.is
     (attempt-over c.laws.ensures.node c.args.node.now (λ i. omega (arith, c.slice_known-1.given i))
     c.requires c.args.attempt c.put_attempt.ensures)
 
-pub returns-in-Refused : goal.returns-in-Refused
-returns-in-Refused c = rw c.in-Refused.is refl
+pub returns-in-Err : goal.returns-in-Err
+returns-in-Err c = rw c.in-Err.is refl

@@ -4,7 +4,7 @@ use mathlib.Core.Bool.{true}
 use mathlib.Core.Path.{ap}
 use lib.ListN.{drop}
 use Rattle.refusal.specs.declared.Refusal.TheVariants.{Cut, Form}
-use Rattle.cbor.proofs.Heads.{argument-direct, argument-form, argument_cut, direct-short, head-no, head-yes}
+use Rattle.cbor.proofs.Heads.{argument-direct, argument-form, argument_cut, argument-whole, direct-short, head-no, head-yes}
 use Rattle.cbor.proofs.head.head_from.Goals as goal
 
 pub returns-then-info-lt24 : goal.returns-then-info-lt24
@@ -30,6 +30,10 @@ returns-then-s-next c =
 pub returns : goal.returns
 returns c =
     let a = c.args in
-    head-yes a.s.now a.at a.first c.argument_at-argument.result (a.at + c.width.result)
+    let n = c.number_of-argument.result in
+    head-yes a.s.now a.at a.first n (a.at + c.width.result)
     c.is_short-short.result
-    c.if-s-next.false c.argument_at-argument.ensures c.is_short-short.ensures
+    c.if-s-next.false
+    (argument-whole a.s.now (a.first % 32) a.at (a.at + c.width.result) (ap (a.at +◌) c.width.ensures.0) n
+    c.if-info-lt24.false c.if-info-gt27.false c.if-s-next.false c.number_of-argument.ensures)
+    c.is_short-short.ensures

@@ -5,9 +5,9 @@ use Rattle.cojp.proofs.rate.read_rate.Goals as goal
 
 pub returns-in-Number : goal.returns-in-Number
 returns-in-Number c =
-    rate-number c.args.s.now c.args.at c.value_at-v.result c.value_at-v.ensures c.in-Number.number c.in-Number.next c.in-Number.is
+    rate-number c.args.s.now c.args.at c.value_at.result c.value_at.ensures c.in-Number.number c.in-Number.next c.in-Number.is
 
 pub returns-in_default : goal.returns-in_default
 returns-in_default c =
-    c.no_rate.ensures ∙ rate-other c.args.s.now c.args.at c.value_at-v.result c.value_at-v.ensures
+    c.no_rate.ensures ∙ rate-other c.args.s.now c.args.at c.value_at.result c.value_at.ensures
     c.in_default.not-Number

@@ -4,4 +4,4 @@ use Rattle.cojp.proofs.reported.error_reports_of.Goals as goal
 
 pub returns : goal.returns
 unfolding error_reports_of
-returns c = rw (← c.bad_in-bad.ensures) c.bad_of.ensures
+returns c = rw (← c.bad_in.ensures) c.bad_of.ensures

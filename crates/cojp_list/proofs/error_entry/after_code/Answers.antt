@@ -2,20 +2,20 @@
 use Rattle.cojp_list.proofs.Reports.{code-open, code-short, code-whole}
 use Rattle.cojp_list.proofs.error_entry.after_code.Goals as goal
 
+pub returns-in_err-label : goal.returns-in_err-label
+returns-in_err-label c =
+    let a = c.args in
+    let i = c.integer_at in
+    rw c.from_residual.ensures (code-open a.s.now a.at a.left i.result i.ensures a.code c.in_err-label.was)
+
 pub returns-then-left-eq1 : goal.returns-then-left-eq1
 returns-then-left-eq1 c =
     let a = c.args in
-    let i = c.integer_at-i in
-    code-short a.s.now a.at a.left i.result i.ensures a.negative a.code c.in-At.is c.if-left-eq1.true
+    let i = c.integer_at in
+    code-short a.s.now a.at a.left i.result i.ensures a.code c.in_ok-label.was c.if-left-eq1.true
 
-pub returns-in-NoInteger : goal.returns-in-NoInteger
-returns-in-NoInteger c =
+pub returns : goal.returns
+returns c =
     let a = c.args in
-    let i = c.integer_at-i in
-    code-open a.s.now a.at a.left i.result i.ensures a.negative a.code c.in-NoInteger.is
-
-pub returns-else-left-eq1 : goal.returns-else-left-eq1
-returns-else-left-eq1 c =
-    let a = c.args in
-    let i = c.integer_at-i in
-    code-whole a.s.now a.at a.left i.result i.ensures a.negative a.code c.in-At.is c.pass_over-p.result c.pass_over-p.ensures
+    let i = c.integer_at in
+    code-whole a.s.now a.at a.left i.result i.ensures a.code c.in_ok-label.was c.pass_over-rest.result c.pass_over-rest.ensures

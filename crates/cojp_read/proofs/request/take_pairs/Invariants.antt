@@ -1,15 +1,13 @@
 -- What is still to be read from here on is what was to be read from the start; at most so many labels were passed over as there were pairs.
+use Prim.Native.Nat.{◌-◌}
 use lib.ListN.{drop}
-use Rattle.cojp.specs.Request.{request_state, request_form, empty_request_state}
+use Rattle.cojp.specs.Request.{request_form}
 use Rattle.cojp_map.specs.Pairs.{walk_at}
 use Rattle.cojp_map.proofs.Maps.{Walking}
 use Rattle.cojp_read.proofs.request.take_pairs.Given as goal
 
-abbrev pub invariant-loop-left : goal.invariant-loop-left
-invariant-loop-left l =
-    Walking (request_form l.version) (walk_at (request_form l.version) l.initial.left empty_request_state (drop l.initial.at l.s))
-    l.initial.left l.q.unknown l.left
-    (request_state l.named l.q) (drop l.at l.s)
-
-abbrev pub decreases-loop-left : goal.decreases-loop-left
-decreases-loop-left l = l.left
+abbrev pub invariant-loop : goal.invariant-loop
+invariant-loop l =
+    let form = request_form l.version in
+    Walking form (walk_at form l.end l.initial.state (drop l.initial.at l.payload)) l.end l.state.request.unknown (l.end - l.counter)
+    l.state (drop l.at l.payload)

@@ -1,14 +1,15 @@
--- The interface identifier and the token are the lists of their eight bytes.
-use mathlib.Core.Path.{◌≡◌}
-use lib.ListN.{length}
-use Rattle.join_proxy.proofs.Bodies.{text-bytes}
-use borrow.Author.Rules.{rules}
+-- The fields stand one after the other, zeros after the token.
+use Rattle.std.proofs.Common.{◌≡◌, ◌∙◌, rules, get_or, append-nil}
+use Rattle.lemmas.specs.lists.FromFn.{made-table}
+use Rattle.join_proxy.specs.Body.{eight}
+use Rattle.join_proxy.proofs.Bodies.{text-parts, two-bytes}
 use Rattle.join_proxy.proofs.body.text.Goals as goal
 
 pub returns : goal.returns
 returns c =
-    let l : length c.args.interface ≡ 8 = search rules in
-    text-bytes c.args.interface c.args.port c.args.token.now _ _ _ _ _ _ _ _ l c.byte_at.ensures c.byte_at-2.ensures
-    c.byte_at-3.ensures
-    c.byte_at-4.ensures c.byte_at-5.ensures c.byte_at-6.ensures c.byte_at-7.ensures
-    c.byte_at-8.ensures
+    let token = c.args.token.now in
+    let padded : c.from_fn-padded.result ≡ eight token
+    = made-table (λ i. get_or token i 0) (λ i y q k. search rules) c.from_fn-padded.ensures.items in
+    let port = c.copy_from_slice-2.ensures.after ∙ c.to_be_bytes.ensures ∙ two-bytes c.args.port (search rules) in
+    rw (c.copy_from_slice-3.ensures.after, port, c.copy_from_slice.ensures.after, padded, append-nil)
+    (text-parts c.args.interface c.args.port token)

@@ -4,4 +4,4 @@ use Rattle.key_image.proofs.key.key_at.Goals as goal
 
 pub returns : goal.returns
 returns c =
-    key-got c.args.src.now c.args.at c.array_16_at.ensures c.additional_info_at.ensures
+    key-got c.args.src.now c.args.at c.array_at.ensures c.additional_info_at.ensures

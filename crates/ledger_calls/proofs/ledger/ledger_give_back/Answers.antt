@@ -1,21 +1,24 @@
 -- The board's length and the image come first; then the call is the ledger's own.
-use native.Mathlib.Omega.{arith}
-use mathlib.Core.Path.{ap₂, ◌∙◌}
+use Rattle.std.proofs.Common.{ap, ◌∙◌, List, ℕ}
+use Rattle.address_ledger.specs.declared.ledger.Ledger.{Ledger}
 use Rattle.address_ledger.specs.Ledger.{given_back}
 use Rattle.address_ledger_laws.specs.Demand1.{returning}
-use Rattle.image.specs.Part.{is_image}
-use Rattle.lemmas.specs.logic.Tests.{is_true as so}
 use Rattle.state_image.specs.Ledger.{ledger_image}
-use Rattle.ledger_calls.proofs.Ledgers.{told, returned}
-use Rattle.image.proofs.Lent.{whole, then-so}
+use Rattle.ledger_calls.proofs.Ledgers.{is_lent, not-lent, told, returned, unfit}
 use Rattle.ledger_calls.proofs.ledger.ledger_give_back.Goals as goal
+
+pub returns-in_default : goal.returns-in_default
+returns-in_default c =
+    unfit (returning c.args.board.now) c.args.ledger.now c.args.memory.now (not-lent c.args.ledger.now c.args.board.now c.in_default.ensures)
 
 pub returns : goal.returns
 returns c =
-    let board = whole 8 c.args.board.now (omega arith) c.array_8_at.ensures in
-    let image = so c.is_ledger.ensures c.if-not-is_ledger.false in
-    let right = then-so c.args.board.now 8 (is_image ledger_image c.args.ledger.now) (omega arith) image in
-    let same = c.give_back-done.ensures ∙ ap₂ (λ l b. given_back l c.args.memory.now b) c.ledger_in.ensures board in
-    let performed = returned (ledger_image.get c.args.ledger.now) c.args.memory.now c.args.board.now c.give_back-done.result _ same in
-    told (returning c.args.board.now) c.args.ledger.now c.args.memory.now c.demand1.ensures _ right performed c.store_address.ensures.number
-    c.store_address.ensures.image c.store_address.ensures.address
+    let s = c.args.ledger.now in
+    let m = c.args.memory.now in
+    let b = c.args.board.now in
+    let both = is_lent s b _ c.in-Some.ensures in
+    let same = c.give_back-done.ensures
+    ∙ ap (λ (p : Ledger × List ℕ). given_back p.0 m p.1) both.1 in
+    let performed = returned (ledger_image.get s) m b c.give_back-done.result _ same in
+    told (returning b) s m c.demand1.ensures _ both.0 performed c.store_address.ensures.number c.store_address.ensures.image
+    c.store_address.ensures.address

@@ -5,5 +5,5 @@ use Rattle.node_calls.proofs.frames.node_verified.Goals as goal
 pub returns : goal.returns
 returns c =
     reported c.demand1.ensures c.args.node.now c.args.frame_type c.args.identifier
-    c.verified_in-what.result c.verified_in-what.ensures.change c.verdict.ensures
-    c.change_code.ensures c.verdict_number.ensures c.verified_in-what.ensures.node
+    c.verified_in-what.result c.verified_in-what.ensures.change c.verdict_of.ensures
+    c.change_code.ensures c.number_of.ensures c.verified_in-what.ensures.node

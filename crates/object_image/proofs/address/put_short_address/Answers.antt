@@ -6,5 +6,5 @@ use Rattle.object_image.proofs.address.put_short_address.Goals as goal
 
 pub returns : goal.returns
 returns c =
-    let w = next_field (omega arith) c.put_array_2.ensures c.put_bool.ensures in
+    let w = next_field (omega arith) c.put_array.ensures c.put_bool.ensures in
     address-wrote c.args.address (next_field (omega arith) w c.put_number.ensures)

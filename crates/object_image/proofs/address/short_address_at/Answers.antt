@@ -4,5 +4,5 @@ use Rattle.object_image.proofs.address.short_address_at.Goals as goal
 
 pub returns : goal.returns
 returns c =
-    address-here c.args.s.now c.args.at c.array_2_at.ensures c.bool_at.ensures
+    address-here c.args.s.now c.args.at c.array_at.ensures c.bool_at.ensures
     c.number_at.ensures

@@ -3,7 +3,7 @@ use Rattle.lemmas.specs.logic.Tests.{is_true}
 use Rattle.object_image.proofs.Objects.{by-rate}
 use Rattle.object_image.proofs.configuration.is_later.Goals as goal
 
-pub returns : goal.returns
-returns c =
+pub returns-then-is_list_parameter : goal.returns-then-is_list_parameter
+returns-then-is_list_parameter c =
     by-rate c.args.s.now c.args.at
-    (is_true c.is_list_parameter.ensures c.if-not-is_list_parameter.false) c.is_rate_parameter.ensures
+    (is_true c.is_list_parameter.ensures c.if-is_list_parameter.true) c.is_rate_parameter.ensures

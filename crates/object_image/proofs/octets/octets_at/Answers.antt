@@ -4,4 +4,4 @@ use Rattle.object_image.proofs.octets.octets_at.Goals as goal
 
 pub returns : goal.returns
 returns c =
-    octets-here c.args.s.now c.args.at c.number_at.ensures c.array_16_at.ensures
+    octets-here c.args.s.now c.args.at c.number_at.ensures c.array_at.ensures

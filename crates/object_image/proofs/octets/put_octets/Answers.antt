@@ -5,4 +5,4 @@ use Rattle.object_image.proofs.octets.put_octets.Goals as goal
 
 pub returns : goal.returns
 returns c =
-    next_field (omega arith) c.put_number.ensures c.put_array_16.ensures
+    next_field (omega arith) c.put_number.ensures c.put_array.ensures

@@ -17,9 +17,9 @@ pub returns : goal.returns
 returns c =
     let image = is_image configuration_image c.args.object.now in
     let right =
-    both (is_version c.args.form) image (is_true c.is_version.ensures c.if-not-is_version.false)
+    both (is_version c.args.form) image c.in-Some.ensures.0
     (is_true c.is_configuration.ensures c.if-not-is_configuration.false)
     in
     wrote_as (is_version c.args.form && image) (λ v q. configuration_plan v q) c.args.dst.now _ c.write_configuration-written.result right
-    c.version_of.ensures c.configuration_in.ensures c.write_configuration-written.ensures c.store_length.ensures.number
+    c.in-Some.ensures.1 c.configuration_in.ensures c.write_configuration-written.ensures c.store_length.ensures.number
     c.store_length.ensures.length

@@ -6,5 +6,5 @@ use Rattle.replay_calls.proofs.counts.put_counts.Goals as goal
 
 pub loop-i-preserved : goal.loop-i-preserved
 loop-i-preserved c =
-    let w = next-count c.args.counts.now c.loop-i.i c.loop-i-test.true (omega arith) c.loop-i.invariant.2 c.put_number.ensures in
-    (omega arith, wrote-length w (omega (arith, w.many)), w)
+    let w = next-count c.args.counts.now c.loop-i.i c.loop-i-test.true (omega arith) c.loop-i.invariant.1 c.put_number.ensures in
+    (wrote-length w (omega (arith, w.many)), w)

@@ -6,6 +6,6 @@ use Rattle.state_image.proofs.proxy.put_proxy.Goals as goal
 
 pub returns : goal.returns
 returns c =
-    let w1 = next_field (omega arith) c.put_head.ensures c.put_array_16.ensures in
+    let w1 = next_field (omega arith) c.put_head.ensures c.put_array.ensures in
     let w2 = next_field (omega arith) w1 c.put_number.ensures in
     proxy-stored c.args.proxy c.requires c.count_of.ensures w2

@@ -4,4 +4,4 @@ use Rattle.trace.proofs.done.poll.Goals as goal
 
 pub returns : goal.returns
 unfolding call_of
-returns c = rw (c.verdict.ensures, c.poll-polled.ensures)
+returns c = rw (c.verdict_of.ensures, c.poll-polled.ensures)

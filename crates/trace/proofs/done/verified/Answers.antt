@@ -4,4 +4,4 @@ use Rattle.trace.proofs.done.verified.Goals as goal
 
 pub returns : goal.returns
 unfolding call_of
-returns c = rw (c.verdict.ensures, c.has_switched.ensures, c.verified-heard.ensures)
+returns c = rw (c.verdict_of.ensures, c.has_switched.ensures, c.verified-heard.ensures)

@@ -3,8 +3,8 @@
 use Rattle.trace.proofs.Turns.{Held, left}
 use Rattle.trace.proofs.walker.walk.Given as goal
 
-abbrev pub invariant-loop-going : goal.invariant-loop-going
-invariant-loop-going l = Held l.going l.trace l.last
+abbrev pub invariant-loop-last : goal.invariant-loop-last
+invariant-loop-last l = Held l.last.progress l.trace l.last
 
-abbrev pub decreases-loop-going : goal.decreases-loop-going
-decreases-loop-going l = left l.going l.trace l.last
+abbrev pub decreases-loop-last : goal.decreases-loop-last
+decreases-loop-last l = left l.last.progress l.trace l.last

@@ -7,18 +7,18 @@ use Rattle.address_ledger.proofs.ledger.Ledger.give_back.Goals as goal
 
 pub give_back_in-requires : goal.give_back_in-requires
 give_back_in-requires c =
-    let accepted = sym c.in-Accepted.is ∙ c.judge.ensures in
+    let accepted = sym c.in-Ok.is ∙ c.judge.ensures in
     let n =
     counted_is c.args.self.first c.args.self.size (length c.args.memory.now) accepted c.count.result c.count.ensures in
     usable c.args.self.first c.args.self.size (length c.args.memory.now) accepted c.count.result n
 
-pub returns-in-Refused : goal.returns-in-Refused
-returns-in-Refused c =
-    back-refused c.args.self c.args.memory.now c.args.board c.in-Refused.refusal (sym c.in-Refused.is ∙ c.judge.ensures) c.refused.result
+pub returns-in-Err : goal.returns-in-Err
+returns-in-Err c =
+    back-refused c.args.self c.args.memory.now c.args.board c.in-Err.refusal (sym c.in-Err.is ∙ c.judge.ensures) c.refused.result
     c.refused.ensures
 
-pub returns-in-Accepted : goal.returns-in-Accepted
-returns-in-Accepted c =
-    let accepted = sym c.in-Accepted.is ∙ c.judge.ensures in
+pub returns-in-Ok : goal.returns-in-Ok
+returns-in-Ok c =
+    let accepted = sym c.in-Ok.is ∙ c.judge.ensures in
     let n = counted_is c.args.self.first c.args.self.size (length c.args.memory.now) accepted c.count.result c.count.ensures in
     back-accepted c.args.self c.args.memory.now c.args.board accepted c.count.result n _ c.give_back_in.ensures

@@ -1,13 +1,12 @@
 -- The invariant: the size of the groups of the keys passed.
-use Prim.Native.Nat.{◌<◌}
-use native.Mathlib.Omega.{arith}
-use lib.ListN.{length}
-use Rattle.link_key.specs.set.KeySet.{keys_of}
-use Rattle.cojp_write.proofs.configuration.KeySets.{past, sizes_step}
+use Rattle.cojp_write.proofs.configuration.KeySets.{past, sizes_step, all-sizes}
 use Rattle.cojp_write.proofs.configuration.key_set.groups_size.Goals as goal
 
-pub loop-i-preserved : goal.loop-i-preserved
-loop-i-preserved c =
-    let i = c.loop-i.i in
-    let more : i < length (keys_of c.args.set) = omega (arith, c.len-n.ensures.exact) in
-    (omega arith, sizes_step c.args.set i past more c.loop-i.invariant.1 c.key_size.ensures c.plus-size.ensures)
+pub loop-key-preserved : goal.loop-key-preserved
+loop-key-preserved c =
+    sizes_step _ c.loop-key.key-index past c.loop-key-test.true c.loop-key.invariant c.key_size.ensures c.plus-size.ensures
+
+pub returns : goal.returns
+returns c =
+    all-sizes c.args.set c.len.result c.loop-key.key-index c.len.ensures.exact c.loop-key-test.false c.len.ensures.few
+    c.loop-key.auto.key-index-end c.loop-key.invariant

@@ -5,19 +5,18 @@ use lib.ListN.{length}
 use Rattle.cojp_write.proofs.octets.Lists.{array-range, array-room, array-done}
 use Rattle.cojp_write.proofs.octets.list.write_array.Goals as goal
 
-pub returns-then-len-gt253 : goal.returns-then-len-gt253
-returns-then-len-gt253 c =
-    array-range c.args.label c.args.l c.args.dst.now c.if-len-gt253.true
+pub returns-then-l-gt253 : goal.returns-then-l-gt253
+returns-then-l-gt253 c =
+    array-range c.args.label c.args.l c.args.dst.now c.if-l-gt253.true
 
 pub returns-then-dst-whole : goal.returns-then-dst-whole
 returns-then-dst-whole c =
     let z : length c.args.l.bytes ≡ 253 = search rules in
-    array-room c.head_laws.ensures c.args.label c.args.l c.head_len-n.ensures c.head_len.ensures z
-    c.args.dst.now c.if-len-gt253.false c.if-dst-whole.true
+    array-room c.head_laws.ensures c.args.label c.args.l c.head_len.ensures c.head_len-2.ensures z
+    c.args.dst.now c.if-l-gt253.false c.if-dst-whole.true
 
 pub returns : goal.returns
 returns c =
     let z : length c.args.l.bytes ≡ 253 = search rules in
-    array-done c.head_laws.ensures c.args.label c.args.l c.head_len-n.ensures c.head_len.ensures z
-    c.args.dst.now c.if-len-gt253.false
-    c.if-dst-whole.false c.write_head.ensures _ c.write_list.ensures
+    array-done c.head_laws.ensures c.args.label c.args.l c.head_len.ensures c.head_len-2.ensures z
+    c.args.dst.now c.if-l-gt253.false c.if-dst-whole.false c.put_head-n.ensures c.put_array.ensures

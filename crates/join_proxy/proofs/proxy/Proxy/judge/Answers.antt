@@ -20,7 +20,7 @@ pub returns : goal.returns
 returns c =
     let self = c.args.self in
     c.forwarded.ensures
-    ∙ ap (λ (n : ℕ). judge_text c.args.self.issued n c.unseal-written.new.dst) c.number_of-number.ensures
+    ∙ ap (λ (n : ℕ). judge_text c.args.self.next n c.unseal-written.new.dst) c.from_be_bytes.ensures
     ∙ sym (sealed-right self c.args.body.now c.if-body-ne31.false c.nonce.result _ c.unseal-written.new.dst
     c.unseal-written.result c.nonce.ensures
-    c.unseal-written.ensures c.laws.ensures _ c.in-Length.is refl)
+    c.unseal-written.ensures c.laws.ensures _ c.in-Ok.is refl)

@@ -7,26 +7,26 @@ use Rattle.lemmas.specs.logic.Tests.{is_false, is_true}
 use Rattle.node.proofs.Applied.{Placed, apply-changed, apply-clash, apply-owed, deliver-early, deliver-invalid}
 use Rattle.node.proofs.Applied.{deliver-read, deliver-unread, none-placed, set-discarded, set-placed}
 use Rattle.node.proofs.node.Node.deliver.Goals as goal
-use Rattle.node.proofs.node.Node.deliver.Goals.{then-is_taken+in-Refused-place+in-Published, then-is_taken+in-At, else-is_taken}
+use Rattle.node.proofs.node.Node.deliver.Goals.{then-is_taken+in-Err-decide_install+in-Published, then-is_taken+in-Ok, else-is_taken}
 
 pub returns-then-not-valid : goal.returns-then-not-valid
 returns-then-not-valid c =
     c.undelivered.ensures
     ∙ deliver-invalid c.args.delivery c.args.self c.args.time c.args.payload.now (is_false c.valid.ensures c.if-not-valid.true)
 
-pub returns-in-Refused : goal.returns-in-Refused
-returns-in-Refused c =
-    c.undelivered-in-Refused.ensures
+pub returns-in-Err : goal.returns-in-Err
+returns-in-Err c =
+    c.undelivered-in-Err.ensures
     ∙ deliver-early c.args.delivery c.args.self c.args.time c.args.payload.now (is_true c.valid.ensures c.if-not-valid.false)
     c.may_come.ensures
-    c.in-Refused.is
+    c.in-Err.is
 
-pub returns-in-Refused-verdict : goal.returns-in-Refused-verdict
-returns-in-Refused-verdict c =
-    c.undelivered-in-Refused-verdict.ensures
+pub returns-in-Err-verdict : goal.returns-in-Err-verdict
+returns-in-Err-verdict c =
+    c.undelivered-in-Err-verdict.ensures
     ∙ deliver-unread c.args.delivery c.args.self c.args.time c.args.payload.now (is_true c.valid.ensures c.if-not-valid.false)
     c.may_come.ensures
-    c.in_default.is c.read_configuration-read.ensures c.in-Refused-verdict.is
+    c.in_default.is c.read_configuration-read.ensures c.in-Err-verdict.is
 
 pub returns-then-owes_identifier : goal.returns-then-owes_identifier
 returns-then-owes_identifier c =
@@ -52,8 +52,8 @@ returns-in-Draft c =
     ∙ apply-clash c.args.delivery c.args.self c.args.time got
     (is_false c.owes_identifier.ensures c.if-owes_identifier.false)
     c.is_taken.ensures c.if-is_taken.true
-    (decided (is_border c.args.self) c.args.self.sets got.keys.value _ c.decide_install-place.ensures)
-    c.in-Refused-place.is
+    (decided (is_border c.args.self) c.args.self.sets got.keys.value _ c.decide_install.ensures)
+    c.in-Err-decide_install.is
     c.in-Draft.is
     ∙ read_so
 
@@ -74,14 +74,14 @@ returns c =
     let taken = c.is_taken.ensures in
     let met : Placed d n t got c.if-is_taken.self c.if-is_taken.c =
     elim c.if-is_taken.branch [
-      | then-is_taken+in-Refused-place+in-Published w ↦
+      | then-is_taken+in-Err-decide_install+in-Published w ↦
           rw (w.self-is, w.c-is, w.no_key_set-c.ensures)
           (set-discarded d n t got owes taken w.if-is_taken.true
-          (decided (is_border n) n.sets got.keys.value _ w.decide_install-place.ensures) w.in-Refused-place.is w.in-Published.is)
-      | then-is_taken+in-At w ↦
+          (decided (is_border n) n.sets got.keys.value _ w.decide_install.ensures) w.in-Err-decide_install.is w.in-Published.is)
+      | then-is_taken+in-Ok w ↦
           rw (w.self-is, w.c-is, w.with_set-self.ensures)
           (set-placed d n t got owes taken w.if-is_taken.true
-          (decided (is_border n) n.sets got.keys.value _ w.decide_install-place.ensures) w.in-At.is)
+          (decided (is_border n) n.sets got.keys.value _ w.decide_install.ensures) w.in-Ok.is)
       | else-is_taken w ↦ rw (w.self-is, w.c-is) (none-placed d n t got owes taken w.if-is_taken.false)
     ] in
     rw (

@@ -1,3 +1,0 @@
-mod Answers
-mod Ciphers
-mod Keeps

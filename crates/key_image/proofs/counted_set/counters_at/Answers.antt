@@ -1,0 +1,19 @@
+-- One counter more is read behind those before it.
+use Rattle.std.specs.Prelude.{◌<◌, length, drop}
+use Rattle.std.proofs.Common.{arith, ◌∙◌, length-set}
+use Rattle.image.specs.PartLemmas.{read_next, read_all}
+use Rattle.image.specs.Part.{number}
+use Rattle.key_image.proofs.counted_set.counters_at.Goals as goal
+
+pub loop-i-preserved : goal.loop-i-preserved
+loop-i-preserved c =
+    let l = c.loop-i in
+    let h : l.i < length l.counters = omega (arith, l.invariant.0, c.loop-i-test.true) in (
+      length-set l.counters l.i c.counter_at.result ∙ l.invariant.0,
+      read_next (number 4) c.args.src.now c.args.at l.i l.counters c.counter_at.result h l.invariant.1 c.counter_at.ensures,
+    )
+
+pub returns : goal.returns
+returns c =
+    let l = c.loop-i in
+    read_all (number 4) (drop c.args.at c.args.src.now) l.i 8 l.counters (omega (arith, l.auto.i-end, c.loop-i-test.false)) l.invariant.0 l.invariant.1

@@ -1,6 +1,0 @@
--- The byte stands at no place that was passed.
-use Rattle.std.proofs.Common.{◌≡◌, ℕ, ◌<◌, ◌≤◌, get_or}
-use Rattle.tool_text.proofs.find.find.Given as goal
-
-abbrev pub invariant-loop-i : goal.invariant-loop-i
-invariant-loop-i l = (k : ℕ) → l.from ≤ k → k < l.i → get_or l.bytes k 0 ≡ l.byte → ⊥

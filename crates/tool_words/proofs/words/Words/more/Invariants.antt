@@ -1,6 +1,0 @@
--- What is left of the part gets shorter with each word.
-use Rattle.std.proofs.Common.{◌-◌, length}
-use Rattle.tool_words.proofs.words.Words.more.Given as goal
-
-abbrev pub decreases-loop-at : goal.decreases-loop-at
-decreases-loop-at l = length l.part - l.at
