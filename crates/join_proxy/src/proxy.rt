@@ -1,5 +1,6 @@
 // A join proxy and its key.
 ghost use Rattle.std.specs.Prelude.{◌≡◌};
+ghost use Rattle.lemmas.specs.lists.Same.{same};
 ghost use Rattle.join_proxy.specs.Keys.{fresh, set_key};
 
 use refusal::Refusal;
@@ -31,7 +32,7 @@ impl Proxy {
     pub fn set_key(self, key: [u8; 16]) -> SetKeyResult
         ensures { result ≡ set_key self key }
     {
-        if self.key == key {
+        if same_key(self.key, key) {
             return SetKeyResult {
                 verdict: Err(Refusal::Range),
                 proxy: self,
@@ -42,4 +43,16 @@ impl Proxy {
             proxy: Proxy::new(key),
         }
     }
+}
+
+// Whether two keys are the same. All sixteen bytes are compared, whatever they are.
+// Kept: not `a == b`, which may stop at the first byte that differs: bindings/pothatch.h says that a proxy's key is compared whole.
+fn same_key(a: [u8; 16], b: [u8; 16]) -> bool
+    ensures { result ≡ same a b }
+{
+    let mut d: u8 = 0;
+    for (x, y) in a.iter().zip(&b) {
+        d |= *x ^ *y;
+    }
+    d == 0
 }
