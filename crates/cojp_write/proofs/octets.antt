@@ -5,3 +5,4 @@ pub mod Strings
 pub mod Maps
 pub mod Plans
 pub mod Lists
+pub mod Arrays
