@@ -107,10 +107,12 @@ fn put_written(out: &mut Output, word: &str, written: Result<usize, Refusal>, ds
 }
 
 fn main(rt: HostRuntime) -> io::Result<()> {
+    let mut input = Input::new(rt.stdin());
+    let mut out = Output::new(rt.stdout());
     let session = Session::begin(
         &rt,
-        Input::new(rt.stdin()),
-        Output::new(rt.stdout()),
+        &mut input,
+        &mut out,
         "cipher: AES-128 and AES-CCM-16-64-128 (docs/TOOLS.md).\n\
 block KEY BLOCK, expand KEY, substitute N, seal KEY NONCE DATA HEX, open KEY NONCE DATA HEX, room N, destination\n",
     );

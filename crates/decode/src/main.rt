@@ -84,17 +84,19 @@ fn answer_line(session: &mut Session, payloads: &mut Payloads, input: &mut Seria
     if line.is_silent() {
         return;
     }
-    if let Err(error) = answer(line, payloads, input, &mut session.out) {
+    if let Err(error) = answer(line, payloads, input, session.out) {
         write!(session.out, "{error}");
     }
     session.out.byte(b'\n');
 }
 
 fn main(rt: HostRuntime) -> io::Result<()> {
+    let mut input = Input::new(rt.stdin());
+    let mut out = Output::new(rt.stdout());
     let session = Session::begin(
         &rt,
-        Input::new(rt.stdin()),
-        Output::new(rt.stdout()),
+        &mut input,
+        &mut out,
         "decode: what the payloads of join requests and configurations mean (docs/TOOLS.md).\n\
 READING HEX: the object; rewrite READING HEX: the object, written again; head HEX: the first head.\n\
 merge HEX + HEX: two configurations joined and written.\n\
@@ -102,6 +104,6 @@ part HEX, end READING, reset: a payload that comes in parts; store N: how many b
 READING is request or configuration, new-request or new-configuration (RFC 9031), with strict- before it if heads must be the shortest.\n",
     );
     let mut payloads = [0u8; 514];
-    let mut input = SerialInput::new();
-    session.run(|session| answer_line(session, &mut payloads, &mut input))
+    let mut serial = SerialInput::new();
+    session.run(|session| answer_line(session, &mut payloads, &mut serial))
 }

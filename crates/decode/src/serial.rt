@@ -6,7 +6,7 @@ use tool_text::first;
 use tool_text::output::Output;
 
 // What has come, and how much of the store is lent.
-#[derive(Drop)]
+#[derive(Clone, Copy)]
 pub struct SerialInput {
     state: SerialState,
     lent: usize,

@@ -33,10 +33,10 @@ struct Tool {
 }
 
 impl Tool {
-    fn new(state: LedgerState, recorder: Option<Recorder>) -> Tool {
+    fn new() -> Tool {
         Tool {
-            state,
-            recorder,
+            state: LedgerState::new(),
+            recorder: None,
             board: [0; 9],
             hex: [0; 40001],
         }
@@ -49,10 +49,10 @@ impl Tool {
             return Ok(());
         }
         match command_of(line, &self.board, &self.hex) {
-            Err(error) => put_line_error(&mut session.out, error),
+            Err(error) => put_line_error(session.out, error),
             Ok(command) => match &mut self.recorder {
-                None => self.state.carry_out(command, &mut session.out),
-                Some(recorder) => recorder.carry_out(&mut self.state, command, &mut session.out)?,
+                None => self.state.carry_out(command, session.out),
+                Some(recorder) => recorder.carry_out(&mut self.state, command, session.out)?,
             },
         }
         session.out.byte(b'\n');
@@ -61,7 +61,7 @@ impl Tool {
 }
 
 // Answers line after line until the input ends, nobody reads the answers or the journal is not written.
-fn run(rt: &impl Eprint, session: Session, mut tool: Tool) -> io::Result<()> {
+fn run(rt: &impl Eprint, session: Session, tool: &mut Tool) -> io::Result<()> {
     let mut recorded = Ok(());
     let mut told = Ok(());
     let ended = session.run(|session| {
@@ -79,7 +79,12 @@ fn run(rt: &impl Eprint, session: Session, mut tool: Tool) -> io::Result<()> {
 }
 
 // A session without a journal.
-fn plain_session(rt: &(impl Env + Eprint), input: Input, out: Output) -> io::Result<()> {
+fn plain_session(
+    rt: &(impl Env + Eprint),
+    input: &mut Input,
+    out: &mut Output,
+    tool: &mut Tool,
+) -> io::Result<()> {
     let session = Session::begin(
         rt,
         input,
@@ -89,7 +94,7 @@ open FIRST SIZE, grant BOARD, back BOARD, free, list, who ADDRESS, holds BOARD,\
 lend N, read PLACE N, write PLACE HEX, clear, count N, marks G.., show\n\
 --journal FILE keeps every change in FILE and resumes from it; --echo or --fixture K N may follow.\n",
     );
-    run(rt, session, Tool::new(LedgerState::new(), None))
+    run(rt, session, tool)
 }
 
 // A session over the journal with this path, whose lock is taken. Where the file cannot be used, the reason goes to standard error, and no
@@ -98,11 +103,11 @@ fn journal_session(
     rt: &(impl Env + Files<File = File> + Eprint),
     path: &str,
     folder: &str,
-    input: Input,
-    mut out: Output,
+    input: &mut Input,
+    out: &mut Output,
+    tool: &mut Tool,
 ) -> io::Result<()> {
-    let mut state = LedgerState::new();
-    match start(rt, path, folder, &mut state, &mut out) {
+    match start(rt, path, folder, &mut tool.state, out) {
         Err(error) => {
             eprintln!(rt; "{path}: {error}")?;
             Err(error)
@@ -115,8 +120,8 @@ fn journal_session(
                 open: journal.is_some(),
             };
             let share = share_asked(rt);
-            let recorder = journal.map(|journal| Recorder { journal, share });
-            run(rt, session, Tool::new(state, recorder))
+            tool.recorder = journal.map(|journal| Recorder { journal, share });
+            run(rt, session, tool)
         }
     }
 }
@@ -137,15 +142,16 @@ fn take_lock(rt: &(impl Files + Eprint), lock: &str) -> io::Result<()> {
 
 fn main(rt: HostRuntime) -> io::Result<()> {
     let mut path = [0u8; 4096];
-    let input = Input::new(rt.stdin());
-    let out = Output::new(rt.stdout());
+    let mut input = Input::new(rt.stdin());
+    let mut out = Output::new(rt.stdout());
+    let mut tool = Tool::new();
     let Some(path) = journal_path(&rt, &mut path)? else {
-        return plain_session(&rt, input, out);
+        return plain_session(&rt, &mut input, &mut out, &mut tool);
     };
     let lock = format!(in rt.alloc(); "{path}.lock")?;
     let folder = format!(in rt.alloc(); "{lock}/..")?;
     take_lock(&rt, lock.as_str())?;
-    let ended = journal_session(&rt, path, folder.as_str(), input, out);
+    let ended = journal_session(&rt, path, folder.as_str(), &mut input, &mut out, &mut tool);
     let released = fs::remove_dir(&rt, lock.as_str());
     ended?;
     released

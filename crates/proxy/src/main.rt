@@ -143,10 +143,12 @@ fn put_proxy(out: &mut Output, proxy: Proxy) {
 }
 
 fn main(rt: HostRuntime) -> io::Result<()> {
+    let mut input = Input::new(rt.stdin());
+    let mut out = Output::new(rt.stdout());
     let session = Session::begin(
         &rt,
-        Input::new(rt.stdin()),
-        Output::new(rt.stdout()),
+        &mut input,
+        &mut out,
         "proxy: up to 16 join proxies, what they issue and what they forward (docs/TOOLS.md).\n\
 proxy I KEY, key I KEY, issue I INTERFACE PORT TOKEN, judge I HEX, show I, issued I N, room N, destination\n",
     );

@@ -17,15 +17,19 @@ pub fn are_named(rt: &impl Env) -> bool {
 }
 
 // Answers each file that the arguments name, one line to each.
-pub fn answer_files(rt: &(impl Env + Files), mut out: Output, trace: &mut Trace) -> io::Result<()> {
+pub fn answer_files(
+    rt: &(impl Env + Files),
+    out: &mut Output,
+    trace: &mut Trace,
+) -> io::Result<()> {
     // Kept: a count, since std's iterator of arguments allocates a text for each
     for i in 1..usize::MAX {
         if !is_given(rt, i) {
             break;
         }
         match read_file(rt, i, trace) {
-            Some(len) => put_trace(&mut out, tool_text::first(trace, len)),
-            None => put_line_error(&mut out, LineError::File),
+            Some(len) => put_trace(out, tool_text::first(trace, len)),
+            None => put_line_error(out, LineError::File),
         }
         out.byte(b'\n');
     }

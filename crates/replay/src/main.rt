@@ -42,21 +42,23 @@ fn answer_line(session: &mut Session, bytes: &mut Trace) {
         return;
     }
     match trace_of(line, bytes) {
-        Ok(trace) => put_trace(&mut session.out, trace),
-        Err(error) => put_line_error(&mut session.out, error),
+        Ok(trace) => put_trace(session.out, trace),
+        Err(error) => put_line_error(session.out, error),
     }
     session.out.byte(b'\n');
 }
 
 fn main(rt: HostRuntime) -> io::Result<()> {
     let mut trace: Trace = [0u8; 1048577];
+    let mut out = Output::new(rt.stdout());
     if are_named(&rt) {
-        return answer_files(&rt, Output::new(rt.stdout()), &mut trace);
+        return answer_files(&rt, &mut out, &mut trace);
     }
+    let mut input = Input::new(rt.stdin());
     let session = Session::begin(
         &rt,
-        Input::new(rt.stdin()),
-        Output::new(rt.stdout()),
+        &mut input,
+        &mut out,
         "replay: what a unit did in a recorded night (docs/TOOLS.md).\n\
 trace HEX; or replay FILE .., each file a recorded trace\n",
     );

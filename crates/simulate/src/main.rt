@@ -26,7 +26,7 @@ impl Simulation {
     fn answer_line(&mut self, session: &mut Session) {
         match next_command(session, &mut self.payload) {
             Ok(None) => {}
-            Ok(Some(command)) => self.carry_out(command, &mut session.out),
+            Ok(Some(command)) => self.carry_out(command, session.out),
             Err(error) => write!(session.out, "{error}\n"),
         }
     }
@@ -42,10 +42,12 @@ impl Simulation {
 }
 
 fn main(rt: HostRuntime) -> io::Result<()> {
+    let mut input = Input::new(rt.stdin());
+    let mut out = Output::new(rt.stdout());
     let session = Session::begin(
         &rt,
-        Input::new(rt.stdin()),
-        Output::new(rt.stdout()),
+        &mut input,
+        &mut out,
         "simulate: up to 16 nodes and their life, joining, updates, frames (docs/TOOLS.md).\n\
 node I ROLE NETWORK, new-node I ROLE NETWORK (RFC 9031), start I TIME TIMEOUT, poll I TIME, answer I TIME HEX, update I TIME HEX,\n\
 holds I TIME, send I TYPE, receive I TYPE IDENTIFIER, verified I TYPE IDENTIFIER, turn I J TYPE, show I,\n\

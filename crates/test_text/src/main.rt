@@ -62,16 +62,18 @@ fn put_line(out: &mut Output, line: Line, payload: &[u8]) {
 fn answer_line(session: &mut Session, payload: &mut [u8; 257]) {
     let line = session.next(FORM, payload);
     if !line.is_silent() {
-        put_line(&mut session.out, line, payload);
+        put_line(session.out, line, payload);
     }
 }
 
 fn main(rt: HostRuntime) -> io::Result<()> {
     let mut payload = [0u8; 257];
+    let mut input = Input::new(rt.stdin());
+    let mut out = Output::new(rt.stdout());
     let session = Session::begin(
         &rt,
-        Input::new(rt.stdin()),
-        Output::new(rt.stdout()),
+        &mut input,
+        &mut out,
         "test_text: what the crate tool_text makes of lines.\n",
     );
     session.run(|session| answer_line(session, &mut payload))

@@ -4,7 +4,7 @@ ghost use Rattle.std.specs.Prelude.{◌≡◌, ◌≤◌, ◌<◌, ◌+◌, true
 use std::io;
 use std::io::{Read, Stdin};
 
-#[derive(Drop)]
+#[derive(Clone, Copy)]
 pub struct Input {
     // from where is read
     from: Stdin,

@@ -1,4 +1,6 @@
 // A line of a tool's input: a command word, numbers, and HEX to the line's end, read in as many parts as it comes in.
+ghost use Rattle.std.specs.Prelude.{◌≡◌, ◌≤◌, ◌++◌, length};
+
 use crate::parting::{Parted, Parting};
 use crate::split_word;
 use crate::word::Word;
@@ -77,7 +79,9 @@ impl Head {
     }
 
     // The head with a part of the line, and what the part has of HEX, which begins at word `rest`.
-    fn more<'a>(self, part: &'a [u8], rest: usize) -> (Head, &'a [u8]) {
+    fn more<'a>(self, part: &'a [u8], rest: usize) -> (Head, &'a [u8])
+        ensures { length result.1.now ≤ length part.now }
+    {
         let mut head = self;
         let mut left = part;
         while !left.is_empty() {
@@ -236,7 +240,9 @@ impl Line {
 }
 
 // The rest of the word that goes on at the part's start, if one does, and what comes after it.
-fn word_end<'a>(part: &'a [u8], goes_on: bool) -> (&'a [u8], &'a [u8]) {
+fn word_end<'a>(part: &'a [u8], goes_on: bool) -> (&'a [u8], &'a [u8])
+    ensures { result.0.now ++ result.1.now ≡ part.now }
+{
     if !goes_on {
         return (&[], part);
     }

@@ -89,10 +89,33 @@ pub struct ByteString<'a>(pub &'a [u8]);
 
 impl Display for ByteString<'_> {
     fn fmt<W: Write>(&self, f: &mut Formatter<W>) -> fmt::Result {
-        write!(f, "h'")?;
+        f.write_str("h'")?;
         for b in self.0 {
-            write!(f, "{b:02x}")?;
+            f.write_str(digit(b / 16))?;
+            f.write_str(digit(b % 16))?;
         }
-        write!(f, "'")
+        f.write_str("'")
+    }
+}
+
+// A hexadecimal digit, in lower case. (`{:02x}` took three times the time.)
+fn digit(value: u8) -> &'static str {
+    match value {
+        0 => "0",
+        1 => "1",
+        2 => "2",
+        3 => "3",
+        4 => "4",
+        5 => "5",
+        6 => "6",
+        7 => "7",
+        8 => "8",
+        9 => "9",
+        10 => "a",
+        11 => "b",
+        12 => "c",
+        13 => "d",
+        14 => "e",
+        _ => "f",
     }
 }

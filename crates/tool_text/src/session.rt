@@ -7,34 +7,40 @@ use std::env::Env;
 use std::io;
 
 #[derive(Drop)]
-pub struct Session {
-    pub input: Input,
-    pub out: Output,
+pub struct Session<'a> {
+    // lent: they hold 65,536 bytes each, and every place that a session is moved to would take as much of the stack
+    pub input: &'a mut Input,
+    pub out: &'a mut Output,
     // whether each line is written before its answer
     pub echo: bool,
     // false once the input has ended or nobody reads the answers
     pub open: bool,
 }
 
-impl Session {
+impl<'a> Session<'a> {
     // The session that the tool's arguments ask for. Where that is help, the help is written, and no line is read.
-    pub fn begin(rt: &impl Env, input: Input, out: Output, help: &str) -> Session {
+    pub fn begin(
+        rt: &impl Env,
+        input: &'a mut Input,
+        out: &'a mut Output,
+        help: &str,
+    ) -> Session<'a> {
         let mode = Mode::asked(rt);
-        let mut session = Session {
+        let session = Session {
             input,
             out,
             echo: mode == Mode::Echo,
             open: mode != Mode::Help,
         };
         if mode == Mode::Help {
-            put_help(&mut session.out, help);
+            put_help(session.out, help);
         }
         session
     }
 
     // Answers line after line until the input ends or nobody reads the answers, and writes what waits. The error is that of a write or a
     // read that failed.
-    pub fn run<F: FnMut(&mut Session)>(mut self, mut answer_line: F) -> io::Result<()>
+    pub fn run<F: FnMut(&mut Session<'a>)>(mut self, mut answer_line: F) -> io::Result<()>
         requires { F.IsAlwaysCallable answer_line }
     {
         // Kept: a counted loop, since a loop over a session that has no end needs a `Wait` bound

@@ -20,11 +20,12 @@ pub fn run<T: Tool>(session: Session, tool: &mut T) -> io::Result<()> {
 }
 
 fn answer_line<T: Tool>(session: &mut Session, tool: &mut T) {
-    let words = session.read_line(Words::new(), |words, part| words.more(part, T::HEX_AT));
+    let mut words = Words::new();
+    session.read_line((), |(), part| words.more(part, T::HEX_AT));
     if words.is_silent() {
         return;
     }
-    if let Err(error) = tool.answer(&words, &mut session.out) {
+    if let Err(error) = tool.answer(&words, session.out) {
         write!(session.out, "{error}");
     }
     session.out.byte(b'\n');

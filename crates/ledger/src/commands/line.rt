@@ -36,23 +36,21 @@ impl Line {
         }
     }
 
-    // The line with its next part; the bytes of a board and of HEX go to their buffers.
-    pub fn more(self, part: &[u8], board: &mut [u8], hex: &mut [u8]) -> Line {
-        let mut line = self;
+    // Reads the line's next part; the bytes of a board and of HEX go to their buffers.
+    pub fn more(&mut self, part: &[u8], board: &mut [u8], hex: &mut [u8]) {
         let mut left = part;
         while !left.is_empty() {
             let (word, after) = split_word(left);
-            line = line.next(word, after.is_some(), board, hex);
+            self.add(word, after.is_some(), board, hex);
             left = after.unwrap_or(&[]);
         }
-        line
     }
 
-    // The line with what stands before a space, if it is one that comes then: a word, the rest of one, or nothing.
-    fn next(mut self, part: &[u8], space: bool, board: &mut [u8], hex: &mut [u8]) -> Line {
+    // Adds what stands before a space, if it is one that comes then: a word, the rest of one, or nothing.
+    fn add(&mut self, part: &[u8], space: bool, board: &mut [u8], hex: &mut [u8]) {
         if !self.inside {
             if part.is_empty() {
-                return self;
+                return;
             }
             if self.words < 4 {
                 self.words += 1;
@@ -60,16 +58,16 @@ impl Line {
             self.groups = self.groups.ended();
         }
         self.inside = !space;
-        self.with_word(part, board, hex)
+        self.add_word(part, board, hex);
     }
 
-    // The line with a part of its last word. The command names no group.
-    fn with_word(mut self, part: &[u8], board: &mut [u8], hex: &mut [u8]) -> Line {
+    // Adds a part of the last word. The command names no group.
+    fn add_word(&mut self, part: &[u8], board: &mut [u8], hex: &mut [u8]) {
         match self.words {
-            0 => return self,
+            0 => return,
             1 => {
                 self.command = self.command.more(part);
-                return self;
+                return;
             }
             2 => {
                 self.first = self.first.more(part);
@@ -82,7 +80,6 @@ impl Line {
             _ => self.hex = self.hex.more(part, hex),
         }
         self.groups = self.groups.more(part);
-        self
     }
 
     // Whether it holds no command: it is empty, or a comment.

@@ -10,5 +10,7 @@ pub type Bytes = [u8; 40001];
 
 // The next line, to its end or the input's; the bytes of a board and of HEX go to their buffers.
 pub fn next_line(session: &mut Session, board: &mut [u8], hex: &mut [u8]) -> Line {
-    session.read_line(Line::new(), move |line, part| line.more(part, board, hex))
+    let mut line = Line::new();
+    session.read_line((), |(), part| line.more(part, board, hex));
+    line
 }
