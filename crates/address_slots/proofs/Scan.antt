@@ -24,6 +24,22 @@ same-pointwise (suc n) [] b h k = absurd (omega arith)
 same-pointwise (suc n) (x ∷ s) [] h k = absurd (omega arith)
 same-pointwise (suc n) (x ∷ s) (y ∷ b) h k = ap (λ (t : Bool). (eqb x y && t)) (same-pointwise n s b (omega arith) (omega arith))
 
+pub same_step : (n at i : ℕ) (m b : List ℕ) → i < n
+    → same (n - i) (drop (at + i) m) (drop i b)
+    ≡ (eqb (get_or m (at + i) 0) (get_or b i 0) && same (n - (i + 1)) (drop (at + (i + 1)) m) (drop (i + 1) b))
+unfolding same
+same_step n at i m b h =
+    let e : n - i ≡ suc (n - (i + 1)) = omega arith in
+    let f : at + i + 0 ≡ at + i = omega arith in
+    let g : at + i + 1 ≡ at + (i + 1) = omega arith in
+    rw (e, get_or-drop, drop-drop, get_or-drop, drop-drop, f, g, add-zero)
+
+pub same_end : (at i : ℕ) (m b : List ℕ) → 8 ≤ i → same (8 - i) (drop (at + i) m) (drop i b) ≡ true
+unfolding same
+same_end at i m b h =
+    let e : 8 - i ≡ 0 = omega arith in
+    rw e
+
 same_differs : (n i : ℕ) (s b : List ℕ) → i < n → (get_or s i 0 ≡ get_or b i 0 → ⊥) → same n s b ≡ false
 unfolding same
 same_differs zero i s b h d = absurd (omega arith)
