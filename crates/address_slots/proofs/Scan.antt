@@ -8,22 +8,11 @@ use native.Mathlib.Nat.{add-zero}
 use borrow.Author.Tests.{eq-eqb, ne_eqb, lt-ltb, le-ltb, ltb-true, ltb-false}
 use lib.Dec.{eqb, ltb}
 use Rattle.std.specs.Prelude.{Some, None}
-use lib.ListN.{length, get_or, take, drop, length-take, length-drop}
-use lib.Pointwise.{pointwise}
+use lib.ListN.{length, get_or, take, drop}
 use lib.Seq.{get_or-drop, drop-drop}
 use Rattle.address_slots.specs.Slot.{Slot, slot_at, slots, same, lowest, has, lowest_from, is_free, held_by, count_free}
 
 -- ---- the bytes of a board
--- two slices that are as long as one another are equal exactly where all their bytes agree
-same-pointwise : (n : ℕ) (s b : List ℕ) → length s ≡ n → length b ≡ n → pointwise eqb s b ≡ same n s b
-unfolding same
-same-pointwise zero [] [] h k = refl
-same-pointwise zero [] (y ∷ b) h k = absurd (omega arith)
-same-pointwise zero (x ∷ s) b h k = absurd (omega arith)
-same-pointwise (suc n) [] b h k = absurd (omega arith)
-same-pointwise (suc n) (x ∷ s) [] h k = absurd (omega arith)
-same-pointwise (suc n) (x ∷ s) (y ∷ b) h k = ap (λ (t : Bool). (eqb x y && t)) (same-pointwise n s b (omega arith) (omega arith))
-
 pub same_step : (n at i : ℕ) (m b : List ℕ) → i < n
     → same (n - i) (drop (at + i) m) (drop i b)
     ≡ (eqb (get_or m (at + i) 0) (get_or b i 0) && same (n - (i + 1)) (drop (at + (i + 1)) m) (drop (i + 1) b))
@@ -58,14 +47,6 @@ unfolding same
 same-take zero s b = refl
 same-take (suc n) [] b = refl
 same-take (suc n) (x ∷ s) b = ap (λ (t : Bool). (eqb x (get_or b 0 0) && t)) (same-take n s (drop 1 b))
-
--- the eight bytes from `at` on, compared as a slice
-pub eight-same : (at : ℕ) (m b : List ℕ) → at + 8 ≤ length m → length b ≡ 8
-    → pointwise eqb (take (at + 8 - at) (drop at m)) b ≡ same 8 (drop at m) b
-eight-same at m b h k =
-    let e : at + 8 - at ≡ 8 = omega arith in
-    let f : length (take 8 (drop at m)) ≡ 8 = simp (length-take, length-drop) (omega arith) in
-    rw e (same-pointwise 8 (take 8 (drop at m)) b f k ∙ same-take 8 (drop at m) b)
 
 -- ---- one place
 module _ (at : ℕ) (m b : List ℕ) where

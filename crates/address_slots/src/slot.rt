@@ -26,8 +26,8 @@ fn is_board(memory: &[u8], at: usize, board: &[u8; 8]) -> bool
     if memory[at + 7] != board[7] {
         return false;
     }
-    // Kept: not `==` of two slices, which is a call for each place of a length that is not constant, nor of two arrays, which ends no
-    // earlier than the last byte: boards that differ in an early byte took twice the time
+    // Kept: not `==` of two slices, which is a function call for each slot unless the length is constant; nor of two arrays, which compares
+    // all eight bytes: boards that differ in an early byte took three times the time.
     for i in 0..8 {
         if memory[at + i] != board[i] {
             return false;

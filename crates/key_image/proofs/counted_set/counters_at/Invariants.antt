@@ -1,6 +1,6 @@
+-- The counters that were read are the first i of those to read.
 use Rattle.std.specs.Prelude.{◌≡◌, length, take, drop}
 use Rattle.image.specs.Part.{number, gets}
-use Rattle.image.specs.Part.{number}
 use Rattle.key_image.proofs.counted_set.counters_at.Given as goal
 
 abbrev pub invariant-loop-i : goal.invariant-loop-i
